@@ -1,0 +1,122 @@
+-- Whole numbers as a first number and a natural number more, and their order.
+use Prim.Native.Nat.{ℕ, zero, suc, _+_, _-_, _≤_, _<_}
+use mathlib.Core.Path.{_≡_, refl, sym, ap, ap₂, _∙_, subst}
+use mathlib.Core.Bool.{Bool, true, false, cond, _||_}
+use native.Mathlib.Omega.{arith}
+use native.Mathlib.Decide.{decLt}
+use lib.Dec.{ltb}
+use lib.IntN.{ℤ, pos, negsuc, natAbs, negℤ, _+ℤ_, _-ℤ_, subℕ, +ℤ-assoc, +ℤ-comm, +ℤ-negℤ-cancel}
+use lib.Signed.{ltZ}
+use borrow.Author.Tests.{ltb-true, ltb-false, lt-ltb, le-ltb}
+use Rattle.numbers.specs.Range.{outside, since}
+
+-- two constructors of Bool differ
+pub no-both : {G : Type 0} (t : Bool) → t ≡ true → t ≡ false → G
+no-both t p q = absurd (let z : _≡_ {A = ℕ} 0 1 = cc in omega arith)
+
+-- a difference of natural numbers, by its sign
+pub on-sub : (P : ℤ → Type 0) (a b : ℕ) → (a < b → P (negsuc (b - suc a))) → (b ≤ a → P (pos (a - b))) → P (subℕ a b)
+on-sub P a b f g = go (ltb a b) refl
+  where
+    go : (t : Bool) → ltb a b ≡ t → P (cond t (negsuc (b - suc a)) (pos (a - b)))
+    go true e = f (ltb-true a b e)
+    go false e = g (ltb-false a b e)
+
+pub sub-neg : (a b : ℕ) → a < b → subℕ a b ≡ negsuc (b - suc a)
+sub-neg a b h = rw (lt-ltb a b h)
+
+pub sub-pos : (a b : ℕ) → b ≤ a → subℕ a b ≡ pos (a - b)
+sub-pos a b h = rw (le-ltb a b h)
+
+-- a number that is not below `first` is `first` and a natural number
+pub above : (first z : ℤ) → ltZ z first ≡ false → (n : ℕ) × (z ≡ first +ℤ pos n)
+above (pos a) (pos b) h = let l = ltb-false b a h in (b - a, ap pos (omega arith))
+above (pos a) (negsuc b) h = no-both true refl h
+above (negsuc a) (pos b) h = (b + suc a, sym (sub-pos (b + suc a) (suc a) (omega arith) ∙ ap pos (omega arith)))
+above (negsuc a) (negsuc b) h =
+    let l = ltb-false a b h in
+    above-neg (a - b) (omega arith)
+  where
+    above-neg : (n : ℕ) → b + n ≡ a → (n : ℕ) × (negsuc b ≡ negsuc a +ℤ pos n)
+    above-neg n e = (n, sym (sub-neg n (suc a) (omega arith) ∙ ap negsuc (omega arith)))
+
+pub difference : (first : ℤ) (n : ℕ) → (first +ℤ pos n) -ℤ first ≡ pos n
+difference first n = ap (λ z. z -ℤ first) (+ℤ-comm first (pos n)) ∙ +ℤ-negℤ-cancel (pos n) first
+
+pub since-add : (first : ℤ) (n : ℕ) → since first (first +ℤ pos n) ≡ n
+since-add first n = ap natAbs (difference first n)
+
+pub since-is : (first z : ℤ) → ltZ z first ≡ false → z -ℤ first ≡ pos (since first z)
+since-is first z h =
+    let a = above first z h in
+    let d : z -ℤ first ≡ pos (a .0) = ap (λ z. z -ℤ first) (a .1) ∙ difference first (a .0) in
+    d ∙ sym (ap (λ z. pos (natAbs z)) d)
+
+pub add-since : (first z : ℤ) → ltZ z first ≡ false → first +ℤ pos (since first z) ≡ z
+add-since first z h =
+    let a = above first z h in
+    ap (λ n. first +ℤ pos n) (ap (since first) (a .1) ∙ since-add first (a .0)) ∙ sym (a .1)
+
+-- order
+ltb-add : (c a b : ℕ) → ltb (c + a) (c + b) ≡ ltb a b
+ltb-add c a b = go (decLt a b)
+  where
+    go : Dec (a < b) → ltb (c + a) (c + b) ≡ ltb a b
+    go (yes h) = lt-ltb (c + a) (c + b) (omega arith) ∙ sym (lt-ltb a b h)
+    go (no h) = le-ltb (c + a) (c + b) (omega arith) ∙ sym (le-ltb a b (omega arith))
+
+pub lt-add : (first : ℤ) (a b : ℕ) → ltZ (first +ℤ pos a) (first +ℤ pos b) ≡ ltb a b
+lt-add (pos c) a b = ltb-add c a b
+lt-add (negsuc c) a b =
+    on-sub (λ z. ltZ z (subℕ b (suc c)) ≡ ltb a b) a (suc c)
+    (λ l. on-sub (λ z. ltZ (negsuc (suc c - suc a)) z ≡ ltb a b) b (suc c) (λ k. both l k (decLt a b)) (λ k. sym (lt-ltb a b (omega arith))))
+    (λ l. on-sub (λ z. ltZ (pos (a - suc c)) z ≡ ltb a b) b (suc c) (λ k. sym (le-ltb a b (omega arith))) (λ k. both′ l k (decLt a b)))
+  where
+    both : a < suc c → b < suc c → Dec (a < b) → ltb (suc c - suc b) (suc c - suc a) ≡ ltb a b
+    both l k (yes h) = lt-ltb (suc c - suc b) (suc c - suc a) (omega arith) ∙ sym (lt-ltb a b h)
+    both l k (no h) = le-ltb (suc c - suc b) (suc c - suc a) (omega arith) ∙ sym (le-ltb a b (omega arith))
+
+    both′ : suc c ≤ a → suc c ≤ b → Dec (a < b) → ltb (a - suc c) (b - suc c) ≡ ltb a b
+    both′ l k (yes h) = lt-ltb (a - suc c) (b - suc c) (omega arith) ∙ sym (lt-ltb a b h)
+    both′ l k (no h) = le-ltb (a - suc c) (b - suc c) (omega arith) ∙ sym (le-ltb a b (omega arith))
+
+pub not-below : (first : ℤ) (n : ℕ) → ltZ (first +ℤ pos n) first ≡ false
+not-below (pos c) n = le-ltb (c + n) c (omega arith)
+not-below (negsuc c) n = on-sub (λ z. ltZ z (negsuc c) ≡ false) n (suc c) (λ l. le-ltb c (suc c - suc n) (omega arith)) (λ l. refl)
+
+-- a range first..last, and how far its numbers lie from its first one
+module _ (first last : ℤ) (some : ltZ last first ≡ false) where
+  pub since-le : (z : ℤ) → ltZ z first ≡ false → ltZ last z ≡ false → since first z ≤ since first last
+  since-le z lo hi =
+      ltb-false (since first last) (since first z)
+      (sym (lt-add first (since first last) (since first z)) ∙ ap₂ ltZ (add-since first last some) (add-since first z lo) ∙ hi)
+
+  pub not-above : (n : ℕ) → n ≤ since first last → ltZ last (first +ℤ pos n) ≡ false
+  not-above n h =
+      ap (λ l. ltZ l (first +ℤ pos n)) (sym (add-since first last some)) ∙ lt-add first (since first last) n
+      ∙ le-ltb (since first last) n h
+
+  pub above-last : (n : ℕ) → since first last < n → ltZ last (first +ℤ pos n) ≡ true
+  above-last n h =
+      ap (λ l. ltZ l (first +ℤ pos n)) (sym (add-since first last some)) ∙ lt-add first (since first last) n
+      ∙ lt-ltb (since first last) n h
+
+  pub inside : (n : ℕ) → n ≤ since first last → outside first last (first +ℤ pos n) ≡ false
+  inside n h = ap₂ _||_ (not-below first n) (not-above n h)
+
+-- `outside`, taken apart
+pub outside-no : (first last z : ℤ) → outside first last z ≡ false → (ltZ z first ≡ false) × (ltZ last z ≡ false)
+outside-no first last z = go (ltZ z first) (ltZ last z)
+  where
+    go : (a b : Bool) → (a || b) ≡ false → (a ≡ false) × (b ≡ false)
+    go true b h = no-both true refl h
+    go false b h = (refl, h)
+
+pub not-outside : (first last z : ℤ) → ltZ z first ≡ false → ltZ last z ≡ false → outside first last z ≡ false
+not-outside first last z lo hi = ap₂ _||_ lo hi
+
+pub below-outside : (first last z : ℤ) → ltZ z first ≡ true → outside first last z ≡ true
+below-outside first last z lo = ap (λ t. t || ltZ last z) lo
+
+pub above-outside : (first last z : ℤ) → ltZ z first ≡ false → ltZ last z ≡ true → outside first last z ≡ true
+above-outside first last z lo hi = ap₂ _||_ lo hi

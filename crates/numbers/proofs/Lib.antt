@@ -1,0 +1,3 @@
+pub mod Integers
+pub mod Floor
+pub mod Machine

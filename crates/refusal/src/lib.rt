@@ -1,0 +1,51 @@
+// The numbered refusals of document 01, "The numbered refusals".
+
+ghost use mathlib.Core.Path.{_≡_};
+ghost use Rattle.refusal.specs.Numbers.{refusalNumber};
+
+pub enum Refusal {
+    // 1: year outside the range of years
+    YearOutOfRange,
+    // 2: month outside 1..12
+    MonthOutOfRange,
+    // 3: day outside 1..length of that month
+    DayOutOfRange,
+    // 4: day count, instant or shifted date outside the range
+    OutOfRange,
+    // 5: hour, minute, second or millisecond outside its limits
+    TimeOutOfRange,
+    // 6: position outside its range
+    PositionOutOfRange,
+    // 7: buffer shorter than the label
+    BufferTooShort,
+    // 8: label of another shape
+    MalformedLabel,
+    // 9: a constant, a search end or a claimed bound outside the allowed limits
+    ConstantOutOfLimits,
+    // 10: claim: a difference stands below the bound
+    DifferenceBelowBound,
+    // 11: claim: no difference at or below the bound
+    NoDifferenceUpToBound,
+    // 12: index lists of unequal length
+    UnequalLengths,
+}
+
+// The number of a refusal, 1 to 12.
+pub fn number(refusal: Refusal) -> u64
+    ensures { λ r. ⌜ r ≡ refusalNumber refusal ⌝ }
+{
+    match refusal {
+        Refusal::YearOutOfRange => 1,
+        Refusal::MonthOutOfRange => 2,
+        Refusal::DayOutOfRange => 3,
+        Refusal::OutOfRange => 4,
+        Refusal::TimeOutOfRange => 5,
+        Refusal::PositionOutOfRange => 6,
+        Refusal::BufferTooShort => 7,
+        Refusal::MalformedLabel => 8,
+        Refusal::ConstantOutOfLimits => 9,
+        Refusal::DifferenceBelowBound => 10,
+        Refusal::NoDifferenceUpToBound => 11,
+        Refusal::UnequalLengths => 12,
+    }
+}
