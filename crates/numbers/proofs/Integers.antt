@@ -5,10 +5,10 @@ use mathlib.Core.Bool.{Bool, true, false, cond, _||_}
 use native.Mathlib.Omega.{arith}
 use native.Mathlib.Decide.{decLt}
 use lib.Dec.{ltb}
-use lib.IntN.{ℤ, pos, negsuc, natAbs, negℤ, _+ℤ_, _-ℤ_, subℕ, +ℤ-assoc, +ℤ-comm, +ℤ-negℤ-cancel}
+use lib.IntN.{ℤ, pos, negsuc, natAbs, negℤ, _+ℤ_, _-ℤ_, subℕ, +ℤ-assoc, +ℤ-comm, +ℤ-negℤ-cancel, -ℤ-+ℤ-cancel}
 use lib.Signed.{ltZ}
-use borrow.Author.Tests.{ltb-true, ltb-false, lt-ltb, le-ltb}
-use Rattle.numbers.specs.Range.{outside, since}
+use borrow.Author.Tests.{ltb-true, ltb-false, lt-ltb, le-ltb, eq-eqb, eqb-true}
+use Rattle.numbers.specs.Range.{outside, since, eqZ}
 
 -- two constructors of Bool differ
 pub no-both : {G : Type 0} (t : Bool) → t ≡ true → t ≡ false → G
@@ -84,6 +84,47 @@ pub not-below : (first : ℤ) (n : ℕ) → ltZ (first +ℤ pos n) first ≡ fal
 not-below (pos c) n = le-ltb (c + n) c (omega arith)
 not-below (negsuc c) n = on-sub (λ z. ltZ z (negsuc c) ≡ false) n (suc c) (λ l. le-ltb c (suc c - suc n) (omega arith)) (λ l. refl)
 
+-- not below a, and a not below b
+pub not-below-trans : (z a b : ℤ) → ltZ z a ≡ false → ltZ a b ≡ false → ltZ z b ≡ false
+not-below-trans z a b h k =
+    let n = above a z h in
+    let m = above b a k in
+    let e : z ≡ b +ℤ pos (m .0 + n .0) = n .1 ∙ ap (λ a. a +ℤ pos (n .0)) (m .1) ∙ +ℤ-assoc b (pos (m .0)) (pos (n .0)) in
+    ap (λ z. ltZ z b) e ∙ not-below b (m .0 + n .0)
+
+-- a sum keeps the order
+below : (a b : ℤ) → ltZ a b ≡ true → (n : ℕ) × (b ≡ a +ℤ pos (suc n))
+below (pos a) (pos b) h = let l = ltb-true a b h in (b - suc a, ap pos (omega arith))
+below (pos a) (negsuc b) h = no-both false h refl
+below (negsuc a) (pos b) h = (a + b, sym (sub-pos (suc (a + b)) (suc a) (omega arith) ∙ ap pos (omega arith)))
+below (negsuc a) (negsuc b) h =
+    let l = ltb-true b a h in
+    let e : suc a - suc (suc (a - suc b)) ≡ b = omega arith in
+    (a - suc b, sym (sub-neg (suc (a - suc b)) (suc a) (omega arith) ∙ ap negsuc e))
+
+is-below : (a : ℤ) (n : ℕ) → ltZ a (a +ℤ pos (suc n)) ≡ true
+is-below (pos a) n = lt-ltb a (a + suc n) (omega arith)
+is-below (negsuc a) n =
+    on-sub (λ z. ltZ (negsuc a) z ≡ true) (suc n) (suc a) (λ l. lt-ltb (suc a - suc (suc n)) a (omega arith)) (λ l. refl)
+
+move : (z a : ℤ) (n : ℕ) → z +ℤ (a +ℤ pos n) ≡ (z +ℤ a) +ℤ pos n
+move z a n = sym (+ℤ-assoc z a (pos n))
+
+pub lt-shift : (z a b : ℤ) → ltZ (z +ℤ a) (z +ℤ b) ≡ ltZ a b
+lt-shift z a b = go (ltZ a b) refl
+  where
+    go : (t : Bool) → ltZ a b ≡ t → ltZ (z +ℤ a) (z +ℤ b) ≡ t
+    go true h =
+        let n = below a b h in
+        ap (ltZ (z +ℤ a)) (ap (λ b. z +ℤ b) (n .1) ∙ move z a (suc (n .0))) ∙ is-below (z +ℤ a) (n .0)
+    go false h =
+        let n = above b a h in
+        ap (λ x. ltZ x (z +ℤ b)) (ap (λ a. z +ℤ a) (n .1) ∙ move z b (n .0)) ∙ not-below (z +ℤ b) (n .0)
+
+-- z + (a - z) is a
+pub add-difference : (z a : ℤ) → z +ℤ (a -ℤ z) ≡ a
+add-difference z a = +ℤ-comm z (a -ℤ z) ∙ -ℤ-+ℤ-cancel a z
+
 -- a range first..last, and how far its numbers lie from its first one
 module _ (first last : ℤ) (some : ltZ last first ≡ false) where
   pub since-le : (z : ℤ) → ltZ z first ≡ false → ltZ last z ≡ false → since first z ≤ since first last
@@ -120,3 +161,18 @@ below-outside first last z lo = ap (λ t. t || ltZ last z) lo
 
 pub above-outside : (first last z : ℤ) → ltZ z first ≡ false → ltZ last z ≡ true → outside first last z ≡ true
 above-outside first last z lo hi = ap₂ _||_ lo hi
+
+-- `eqZ`, taken apart
+pub eqZ-same : (z : ℤ) → eqZ z z ≡ true
+eqZ-same (pos a) = eq-eqb a a refl
+eqZ-same (negsuc a) = eq-eqb a a refl
+
+pub eqZ-true : (a b : ℤ) → eqZ a b ≡ true → a ≡ b
+eqZ-true (pos a) (pos b) h = ap pos (eqb-true a b h)
+eqZ-true (pos a) (negsuc b) h = no-both false h refl
+eqZ-true (negsuc a) (pos b) h = no-both false h refl
+eqZ-true (negsuc a) (negsuc b) h = ap negsuc (eqb-true a b h)
+
+-- the number added to `first` is one only
+pub add-injective : (first : ℤ) (m n : ℕ) → first +ℤ pos m ≡ first +ℤ pos n → m ≡ n
+add-injective first m n e = sym (since-add first m) ∙ ap (since first) e ∙ since-add first n

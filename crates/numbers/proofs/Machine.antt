@@ -1,16 +1,17 @@
 -- A tested i64 as a natural number, and a natural number as an i64.
-use Prim.Native.Nat.{ℕ, _+_, _≤_, _<_, _^_}
+use Prim.Native.Nat.{ℕ, zero, suc, _+_, _≤_, _<_, _^_}
 use mathlib.Core.Path.{_≡_, refl, sym, ap, _∙_, subst}
 use mathlib.Core.Bool.{Bool, true, false}
+use native.Mathlib.Nat.{lt-of-le-of-lt}
 use native.Mathlib.Omega.{arith}
-use lib.IntN.{ℤ, pos, negsuc, natAbs, _+ℤ_, _-ℤ_}
+use lib.IntN.{ℤ, pos, negsuc, natAbs, negℤ, _+ℤ_, _-ℤ_, +ℤ-comm}
 use lib.Signed.{ltZ, mag, nonNeg}
 use lib.Dec.{T}
-use mir.Syntax.{w64}
-use mir.Val.{SFits, Fits, toZ, ofZ}
+use mir.Syntax.{Width, w64}
+use mir.Val.{SFits, Fits, bits, toZ, ofZ}
 use mir.Facts.{toZ-ofZ, toZ-pos}
-use Rattle.numbers.specs.Range.{since}
-use Rattle.numbers.proofs.Integers.{on-sub, since-is, since-le}
+use Rattle.numbers.specs.Range.{outside, since}
+use Rattle.numbers.proofs.Integers.{on-sub, since-is, since-le, not-outside, below-outside, above-outside}
 
 -- a signed local holds the bits of z, and each reading goes through them
 abbrev pub read : ℤ → ℤ
@@ -20,29 +21,42 @@ read z = toZ w64 (ofZ w64 z)
 pub pos-fits : {n : ℕ} → n < 2 ^ 63 → SFits w64 (pos n)
 pos-fits h = record { sfits = h }
 
-pub cast-pos : {z : ℤ} (n : ℕ) → n < 2 ^ 63 → z ≡ pos n → T (nonNeg z) × Fits w64 (natAbs z)
-cast-pos n h e = subst (λ z. T (nonNeg z) × Fits w64 (natAbs z)) (sym e) (tt, record { fits = omega arith })
+pub cast-pos : (w : Width) {z : ℤ} (n : ℕ) → n < 2 ^ bits w → z ≡ pos n → T (nonNeg z) × Fits w (natAbs z)
+cast-pos w n h e = subst (λ z. T (nonNeg z) × Fits w (natAbs z)) (sym e) (tt, record { fits = h })
 
--- z, tested to lie in first..last: what `z - first` and its cast to u64 ask, and what they are
+-- what two tests of a local say of its number
+module _ (first last : ℤ) {z : ℤ} (f : SFits w64 z) where
+  pub tested-below : ltZ (read z) first ≡ true → outside first last z ≡ true
+  tested-below lo = below-outside first last z (sym (ap (λ (y : ℤ). ltZ y first) (toZ-ofZ f)) ∙ lo)
+
+  pub tested-above : ltZ (read z) first ≡ false → ltZ last (read z) ≡ true → outside first last z ≡ true
+  tested-above lo hi =
+      above-outside first last z (sym (ap (λ (y : ℤ). ltZ y first) (toZ-ofZ f)) ∙ lo) (sym (ap (ltZ last) (toZ-ofZ f)) ∙ hi)
+
+  pub tested-inside : ltZ (read z) first ≡ false → ltZ last (read z) ≡ false → outside first last z ≡ false
+  tested-inside lo hi =
+      not-outside first last z (sym (ap (λ (y : ℤ). ltZ y first) (toZ-ofZ f)) ∙ lo) (sym (ap (ltZ last) (toZ-ofZ f)) ∙ hi)
+
+-- z in first..last: what `z - first` and its cast to an unsigned number ask, and what they are
 module _ (first last : ℤ) (some : ltZ last first ≡ false) (small : since first last < 2 ^ 63) {z : ℤ} (f : SFits w64 z)
-    (lo : ltZ (read z) first ≡ false) (hi : ltZ last (read z) ≡ false) where
-  near : since first (read z) ≤ since first last
-  near = since-le first last some (read z) lo hi
+    (lo : ltZ z first ≡ false) (hi : ltZ last z ≡ false) where
+  near : since first z ≤ since first last
+  near = since-le first last some z lo hi
+
+  difference : read z -ℤ first ≡ pos (since first z)
+  difference = ap (λ (y : ℤ). y -ℤ first) (toZ-ofZ f) ∙ since-is first z lo
 
   pub from-first : SFits w64 (read z -ℤ first)
-  from-first = subst (λ (y : ℤ). SFits w64 y) (sym (since-is first (read z) lo)) (record { sfits = omega (arith, near) })
+  from-first = subst (λ (y : ℤ). SFits w64 y) (sym difference) (record { sfits = omega (arith, near) })
 
-  back : read (read z -ℤ first) ≡ pos (since first (read z))
-  back = toZ-ofZ from-first ∙ since-is first (read z) lo
+  back : read (read z -ℤ first) ≡ pos (since first z)
+  back = toZ-ofZ from-first ∙ difference
 
-  pub from-first-cast : T (nonNeg (read (read z -ℤ first))) × Fits w64 (natAbs (read (read z -ℤ first)))
-  from-first-cast = cast-pos (since first (read z)) (omega (arith, near)) back
+  pub from-first-cast : (w : Width) → since first last < 2 ^ bits w → T (nonNeg (read (read z -ℤ first))) × Fits w (natAbs (read (read z -ℤ first)))
+  from-first-cast w h = cast-pos w (since first z) (lt-of-le-of-lt near h) back
 
   pub from-first-is : natAbs (read (read z -ℤ first)) ≡ since first z
-  from-first-is = ap natAbs back ∙ ap (since first) (toZ-ofZ f)
-
-  pub from-first-le : natAbs (read (read z -ℤ first)) ≤ since first last
-  from-first-le = subst (λ (n : ℕ). n ≤ since first last) (sym (ap natAbs back)) near
+  from-first-is = ap natAbs back
 
 -- back: n + first
 mag-add : (first : ℤ) (n : ℕ) → mag (pos n +ℤ first) ≤ n + mag first + 1
@@ -55,3 +69,21 @@ module _ (first : ℤ) (n : ℕ) (small : n + mag first + 1 < 2 ^ 63) where
 
   pub add-first-is : read (toZ w64 n +ℤ first) ≡ pos n +ℤ first
   add-first-is = toZ-ofZ add-first ∙ ap (λ (y : ℤ). y +ℤ first) (toZ-pos w64 (omega arith))
+
+-- sums and differences of numbers below 2 ^ 62
+pub add-fits : (a b : ℤ) → mag a < 2 ^ 62 → mag b < 2 ^ 62 → SFits w64 (a +ℤ b)
+add-fits (pos a) (pos b) h k = record { sfits = omega arith }
+add-fits (pos a) (negsuc b) h k = on-sub (SFits w64) a (suc b) (λ l. record { sfits = omega arith }) (λ l. record { sfits = omega arith })
+add-fits (negsuc a) (pos b) h k = on-sub (SFits w64) b (suc a) (λ l. record { sfits = omega arith }) (λ l. record { sfits = omega arith })
+add-fits (negsuc a) (negsuc b) h k = record { sfits = omega arith }
+
+pub mag-negate : (b : ℤ) → mag (negℤ b) ≤ mag b + 1
+mag-negate (pos zero) = omega arith
+mag-negate (pos (suc b)) = omega arith
+mag-negate (negsuc b) = omega arith
+
+pub sub-fits : (a b : ℤ) → mag a < 2 ^ 61 → mag b < 2 ^ 61 → SFits w64 (a -ℤ b)
+sub-fits a b h k = let n = mag-negate b in add-fits a (negℤ b) (omega arith) (omega arith)
+
+pub mag-since : (first : ℤ) (n : ℕ) → mag (first +ℤ pos n) ≤ n + mag first + 1
+mag-since first n = subst (λ (z : ℤ). mag z ≤ n + mag first + 1) (+ℤ-comm (pos n) first) (mag-add first n)

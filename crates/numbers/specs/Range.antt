@@ -1,7 +1,8 @@
 -- Ranges of whole numbers, both ends included.
 use Prim.Native.Nat.{ℕ}
-use mathlib.Core.Bool.{Bool, _||_}
-use lib.IntN.{ℤ, natAbs, _-ℤ_}
+use mathlib.Core.Bool.{Bool, false, _||_}
+use lib.Dec.{eqb}
+use lib.IntN.{ℤ, pos, negsuc, natAbs, _-ℤ_}
 use lib.Signed.{ltZ}
 
 -- z lies outside first..last
@@ -11,3 +12,10 @@ outside first last z = ltZ z first || ltZ last z
 -- how far z lies from first, where z is not below it
 abbrev pub since : (first : ℤ) → ℤ → ℕ
 since first z = natAbs (z -ℤ first)
+
+-- whether two whole numbers are equal
+abbrev pub eqZ : ℤ → ℤ → Bool
+eqZ (pos a) (pos b) = eqb a b
+eqZ (pos a) (negsuc b) = false
+eqZ (negsuc a) (pos b) = false
+eqZ (negsuc a) (negsuc b) = eqb a b

@@ -1,0 +1,10 @@
+pub mod Leap
+pub mod Months
+pub mod Order
+pub mod Steps
+pub mod Tested
+pub mod Lengths
+pub mod Dates
+pub mod Shift
+pub mod March
+pub mod Conversion

@@ -1,0 +1,115 @@
+-- The months of a year: one law for what is shown month by month, their lengths and the days before them.
+use Prim.Native.Nat.{ℕ, zero, suc, _+_, _-_, _*_, _≤_, _<_}
+use mathlib.Core.Path.{_≡_, refl, sym, ap, _∙_, subst}
+use mathlib.Core.Bool.{Bool, true, false, cond}
+use native.Mathlib.Omega.{arith}
+use native.Mathlib.Decide.{decLt}
+use native.Mathlib.Nat.{le-refl, le-trans, add-zero, add-suc}
+use native.Mathlib.Numerals.{add-one}
+use mathlib.Core.List.{List, [], _∷_}
+use lib.IntN.{pos, _+ℤ_}
+use lib.ListN.{getD, take}
+use Rattle.calendar.specs.Gregorian.{leapYear, monthLengths, monthLength}
+use Rattle.calendar.specs.Count.{sum}
+use Rattle.calendar.specs.Closed.{baseYear, leapℕ, leapDay, monthDays, before}
+use Rattle.calendar.proofs.Leap.{leap-public}
+
+-- P holds of 1 to n
+abbrev pub UpTo : (P : ℕ → Type 0) → ℕ → Type 0
+UpTo P zero = Unit {0}
+UpTo P (suc n) = UpTo P n × P (suc n)
+
+at-end : (P : ℕ → Type 0) (n m : ℕ) → P (suc n) → (m ≤ n → P m) → m ≤ suc n → P m
+at-end P n m here below hi = go (decLt n m)
+  where
+    go : Dec (n < m) → P m
+    go (yes h) = subst P (omega arith) here
+    go (no h) = below (omega arith)
+
+pub up-to : (P : ℕ → Type 0) (n : ℕ) → UpTo P n → (m : ℕ) → 1 ≤ m → m ≤ n → P m
+up-to P zero all m lo hi = absurd (omega arith)
+up-to P (suc n) all m lo hi = at-end P n m (all .1) (λ h. up-to P n (all .0) m lo h) hi
+
+pub months : (P : ℕ → Type 0) → UpTo P 12 → (m : ℕ) → 1 ≤ m → m ≤ 12 → P m
+months P = up-to P 12
+
+pub length-positive : (l m : ℕ) → 1 ≤ m → m ≤ 12 → 1 ≤ monthDays l m
+unfolding monthDays
+length-positive l = months (λ m. 1 ≤ monthDays l m) (omega arith)
+
+pub length-le : (l m : ℕ) → l ≤ 1 → 1 ≤ m → m ≤ 12 → monthDays l m ≤ 31
+unfolding monthDays
+length-le l m h = months (λ m. monthDays l m ≤ 31) (omega arith) m
+
+pub before-step : (l m : ℕ) → before l (m + 1) ≡ before l m + monthDays l m
+unfolding before
+before-step l m = rw add-one
+
+pub before-first : (l : ℕ) → before l 1 ≡ 0
+unfolding before monthDays
+before-first l = refl
+
+year-length : (l : ℕ) → before l 12 + monthDays l 12 ≡ 365 + l
+unfolding before monthDays
+year-length l = omega arith
+
+pub year-end : (l m : ℕ) → m ≡ 12 → before l m + monthDays l m ≡ 365 + l
+year-end l m h = rw h (year-length l)
+
+-- what grows with each step grows
+grows : (f : ℕ → ℕ) → ((n : ℕ) → f n ≤ f (suc n)) → (m k : ℕ) → f m ≤ f (m + k)
+grows f g m zero = rw add-zero (le-refl (f m))
+grows f g m (suc k) = rw add-suc (le-trans (grows f g m k) (g (m + k)))
+
+pub monotone : (f : ℕ → ℕ) → ((n : ℕ) → f n ≤ f (suc n)) → (m n : ℕ) → m ≤ n → f m ≤ f n
+monotone f g m n h = subst (λ (k : ℕ). f m ≤ f k) (omega arith) (grows f g m (n - m))
+
+before-up : (l m : ℕ) → before l m ≤ before l (suc m)
+before-up l m = rw (← add-one m) (omega (arith, before-step l m))
+
+pub before-monotone : (l m n : ℕ) → m ≤ n → before l m ≤ before l n
+before-monotone l = monotone (before l) (before-up l)
+
+-- a date's place in its year
+pub within-year : (l m d : ℕ) → 1 ≤ m → m ≤ 12 → 1 ≤ d → d ≤ monthDays l m → before l m + (d - 1) < 365 + l
+within-year l m d a b e f =
+    omega (arith, before-step l m, before-step l 12, before-monotone l (m + 1) 13 (omega arith), year-length l)
+
+-- the lengths of document 01 are those of the closed forms
+length-of : (t : Bool) (m : ℕ) → 1 ≤ m → m ≤ 12 → getD (monthLengths t) (m - 1) 0 ≡ monthDays (cond t 1 0) m
+unfolding monthLengths monthDays
+length-of true = months (λ m. getD (monthLengths true) (m - 1) 0 ≡ monthDays 1 m) (omega arith)
+length-of false = months (λ m. getD (monthLengths false) (m - 1) 0 ≡ monthDays 0 m) (omega arith)
+
+pub length-public : (y m : ℕ) → 1 ≤ m → m ≤ 12 → monthLength (baseYear +ℤ pos y) (pos m) ≡ pos (monthDays (leapDay y) m)
+unfolding monthLength leapDay
+length-public y m lo hi = rw (leap-public y) (ap pos (length-of (leapℕ y) m lo hi))
+
+before-of : (t : Bool) (m : ℕ) → 1 ≤ m → m ≤ 12 → sum (take (m - 1) (monthLengths t)) ≡ before (cond t 1 0) m
+unfolding monthLengths monthDays before
+before-of true = months (λ m. sum (take (m - 1) (monthLengths true)) ≡ before 1 m) (omega arith)
+before-of false = months (λ m. sum (take (m - 1) (monthLengths false)) ≡ before 0 m) (omega arith)
+
+pub before-public : (y m : ℕ) → 1 ≤ m → m ≤ 12 → sum (take (m - 1) (monthLengths (leapYear (baseYear +ℤ pos y)))) ≡ before (leapDay y) m
+unfolding leapDay
+before-public y m lo hi = rw (leap-public y) (before-of (leapℕ y) m lo hi)
+
+-- the rule of the table "days before each month in a common year"
+unfoldable pub days-before : List ℕ
+days-before = 0 ∷ 31 ∷ 59 ∷ 90 ∷ 120 ∷ 151 ∷ 181 ∷ 212 ∷ 243 ∷ 273 ∷ 304 ∷ 334 ∷ []
+
+pub table-rule : (m : ℕ) → 1 ≤ m → m ≤ 12 → (getD days-before (m - 1) 0 ≡ before 0 m) × (before 0 m ≤ 334)
+unfolding days-before before monthDays
+table-rule = months (λ m. (getD days-before (m - 1) 0 ≡ before 0 m) × (before 0 m ≤ 334)) (omega arith)
+
+-- the leap day counts from March on
+pub before-early : (l m : ℕ) → 1 ≤ m → m < 3 → before l m ≡ before 0 m
+unfolding before monthDays
+before-early l m lo hi = up-to (λ m. before l m ≡ before 0 m) 2 (omega arith) m lo (omega arith)
+
+pub before-late : (l m : ℕ) → 3 ≤ m → m ≤ 12 → before l m ≡ before 0 m + l
+unfolding before monthDays
+before-late l m lo hi =
+    let i : m - 2 + 2 ≡ m = omega arith in
+    subst (λ m. before l m ≡ before 0 m + l) i
+    (up-to (λ i. before l (i + 2) ≡ before 0 (i + 2) + l) 10 (omega arith) (m - 2) (omega arith) (omega arith))

@@ -1,0 +1,218 @@
+-- The calendar by steps is the closed forms: the date n days after the first is the one date with the day number 146097 + n.
+use Prim.Native.Nat.{ℕ, zero, suc, _+_, _-_, _*_, _≤_, _<_}
+use mathlib.Core.Path.{_≡_, refl, sym, ap, ap₂, _∙_, subst}
+use mathlib.Core.Bool.{Bool, true, false, cond, _&&_}
+use native.Mathlib.Decide.{decLt}
+use native.Mathlib.Nat.{add-zero, zero-add, add-suc, suc-add}
+use native.Mathlib.Omega.{arith, by-contra}
+use lib.IntN.{ℤ, pos, natAbs, _+ℤ_, +ℤ-assoc}
+use borrow.Author.Tests.{lt-ltb, le-ltb}
+use Rattle.numbers.specs.Range.{since, eqZ}
+use Rattle.numbers.proofs.Integers.{eqZ-same, eqZ-true, add-injective, no-both}
+use Rattle.calendar.specs.declared.Date.{Date}
+use Rattle.calendar.specs.Range.{firstCount, lastCount}
+use Rattle.calendar.specs.Gregorian.{monthLength, date, nextDay, firstDate, dateAfter}
+use Rattle.calendar.specs.Count.{sameDate, daysUntil, countOfDate}
+use Rattle.calendar.specs.Closed.{baseYear, cycle, lastDay, leapDay, leapℕ, leaps, start, monthDays, before, Valid, count, public}
+use Rattle.calendar.proofs.Leap.{leaps-step}
+use Rattle.calendar.proofs.Months.{length-positive, before-step, before-first, year-end, length-public}
+use Rattle.calendar.proofs.Order.{start-step, start-monotone, within, Before, before-less, trichotomy}
+
+-- the three cases of the day after
+next-in-month : (y m d : ℕ) → 1 ≤ m → m ≤ 12 → d < monthDays (leapDay y) m → nextDay (public y m d) ≡ public y m (d + 1)
+unfolding nextDay
+next-in-month y m d lo hi h = rw (length-public y m lo hi, lt-ltb d (monthDays (leapDay y) m) h)
+
+next-in-year : (y m d : ℕ) → 1 ≤ m → m < 12 → monthDays (leapDay y) m ≤ d → nextDay (public y m d) ≡ public y (m + 1) 1
+unfolding nextDay
+next-in-year y m d lo hi h = rw (length-public y m lo (omega arith), le-ltb d (monthDays (leapDay y) m) h, lt-ltb m 12 hi)
+
+next-of-years : (y d : ℕ) → monthDays (leapDay y) 12 ≤ d → nextDay (public y 12 d) ≡ public (y + 1) 1 1
+unfolding nextDay
+next-of-years y d h =
+    rw (length-public y 12 (omega arith) (omega arith), le-ltb d (monthDays (leapDay y) 12) h)
+    (ap (λ z. date z (pos 1) (pos 1)) (+ℤ-assoc baseYear (pos y) (pos 1)))
+
+-- the date n days after the first, in natural numbers
+pub record At (n : ℕ) : Type 0 where
+  pub year : ℕ
+  pub month : ℕ
+  pub day : ℕ
+  pub valid : Valid year month day
+  pub number : count year month day ≡ cycle + n
+  pub is : dateAfter n ≡ public year month day
+
+at-first : At 0
+unfolding dateAfter count start leaps leapDay leapℕ before monthDays
+at-first =
+    record {
+      year = 400;
+      month = 1;
+      day = 1;
+      valid = record { month-low = omega arith; month-high = omega arith; day-low = omega arith; day-high = omega arith };
+      number = refl;
+      is = refl;
+    }
+
+after-month : (y m d : ℕ) → Valid y m d → d < monthDays (leapDay y) m → Valid y m (d + 1) × (count y m (d + 1) ≡ count y m d + 1)
+unfolding count
+after-month y m d v h = (
+  record { month-low = v .month-low; month-high = v .month-high; day-low = omega arith; day-high = omega arith },
+  omega (arith, v .day-low),
+)
+
+after-year : (y m d : ℕ) → Valid y m d → m < 12 → monthDays (leapDay y) m ≤ d → Valid y (m + 1) 1 × (count y (m + 1) 1 ≡ count y m d + 1)
+unfolding count
+after-year y m d v k h = (
+  record {
+    month-low = omega arith;
+    month-high = omega arith;
+    day-low = omega arith;
+    day-high = length-positive (leapDay y) (m + 1) (omega arith) (omega arith);
+  },
+  omega (arith, before-step (leapDay y) m, v .day-low, v .day-high),
+)
+
+after-years : (y d : ℕ) → Valid y 12 d → monthDays (leapDay y) 12 ≤ d → Valid (y + 1) 1 1 × (count (y + 1) 1 1 ≡ count y 12 d + 1)
+unfolding count
+after-years y d v h = (
+  record {
+    month-low = omega arith;
+    month-high = omega arith;
+    day-low = omega arith;
+    day-high = length-positive (leapDay (y + 1)) 1 (omega arith) (omega arith);
+  },
+  omega (arith, year-end (leapDay y) 12 refl, before-first (leapDay (y + 1)), start-step y, v .day-low, v .day-high),
+)
+
+module _ (n : ℕ) (a : At n) where
+  next-at : (y m d : ℕ) → Valid y m d × (count y m d ≡ count (a .year) (a .month) (a .day) + 1) →
+      nextDay (public (a .year) (a .month) (a .day)) ≡ public y m d → At (suc n)
+  unfolding dateAfter
+  next-at y m d v e =
+      record {
+        year = y;
+        month = m;
+        day = d;
+        valid = v .0;
+        number = let k = v .1 in omega (arith, a .number);
+        is = ap nextDay (a .is) ∙ e;
+      }
+
+  at-next : At (suc n)
+  at-next = by-length (decLt (a .day) (monthDays (leapDay (a .year)) (a .month)))
+    where
+      last-month : monthDays (leapDay (a .year)) (a .month) ≤ a .day → (a .month ≡ 12) → At (suc n)
+      last-month h e =
+          let v : Valid (a .year) 12 (a .day) = subst (λ m. Valid (a .year) m (a .day)) e (a .valid) in
+          let l : monthDays (leapDay (a .year)) 12 ≤ a .day = subst (λ m. monthDays (leapDay (a .year)) m ≤ a .day) e h in
+          let w = after-years (a .year) (a .day) v l in
+          next-at (a .year + 1) 1 1
+          (w .0, w .1 ∙ ap (λ m. count (a .year) m (a .day) + 1) (sym e))
+          (ap (λ m. nextDay (public (a .year) m (a .day))) e ∙ next-of-years (a .year) (a .day) l)
+
+      by-month : monthDays (leapDay (a .year)) (a .month) ≤ a .day → Dec (a .month < 12) → At (suc n)
+      by-month h (yes k) =
+          next-at (a .year) (a .month + 1) 1 (after-year (a .year) (a .month) (a .day) (a .valid) k h)
+          (next-in-year (a .year) (a .month) (a .day) (a .valid .month-low) k h)
+      by-month h (no k) = last-month h (omega (arith, a .valid .month-high))
+
+      by-length : Dec (a .day < monthDays (leapDay (a .year)) (a .month)) → At (suc n)
+      by-length (yes h) =
+          next-at (a .year) (a .month) (a .day + 1) (after-month (a .year) (a .month) (a .day) (a .valid) h)
+          (next-in-month (a .year) (a .month) (a .day) (a .valid .month-low) (a .valid .month-high) h)
+      by-length (no h) = by-month (omega arith) (decLt (a .month) 12)
+
+pub at : (n : ℕ) → At n
+at zero = at-first
+at (suc n) = at-next n (at n)
+
+-- a number has one date
+pub unique : (y m d y′ m′ d′ : ℕ) → Valid y m d → Valid y′ m′ d′ → count y m d ≡ count y′ m′ d′ → public y m d ≡ public y′ m′ d′
+unique y m d y′ m′ d′ v w p =
+    trichotomy y m d y′ m′ d′ (λ a. absurd (omega (arith, before-less y m d y′ m′ d′ v w a)))
+    (λ q r s. λ i. public (q i) (r i) (s i))
+    (λ a. absurd (omega (arith, before-less y′ m′ d′ y m d w v a)))
+
+-- whoever finds a valid date with the right number has found the date
+pub found : (n y m d : ℕ) → Valid y m d → count y m d ≡ cycle + n → dateAfter n ≡ public y m d
+found n y m d v e =
+    let a = at n in
+    a .is ∙ unique (a .year) (a .month) (a .day) y m d (a .valid) v (a .number ∙ sym e)
+
+-- a date stands at one number
+count-public : (y m d y′ m′ d′ : ℕ) → public y m d ≡ public y′ m′ d′ → count y m d ≡ count y′ m′ d′
+count-public y m d y′ m′ d′ e =
+    let p = add-injective baseYear y y′ (ap (λ (d : Date). d .year) e) in
+    let q = ap (λ (d : Date). natAbs (d .month)) e in
+    let r = ap (λ (d : Date). natAbs (d .day)) e in
+    λ i. count (p i) (q i) (r i)
+
+pub one-number : (a b : ℕ) → dateAfter a ≡ dateAfter b → a ≡ b
+one-number a b e =
+    let x = at a in
+    let y = at b in
+    let c = count-public (x .year) (x .month) (x .day) (y .year) (y .month) (y .day) (sym (x .is) ∙ e ∙ y .is) in
+    omega (arith, x .number, y .number)
+
+-- counting day by day
+same-date : (d : Date) → sameDate d d ≡ true
+same-date d = simp (eqZ-same (d .year), eqZ-same (d .month), eqZ-same (d .day))
+
+and-true : (a b : Bool) → (a && b) ≡ true → (a ≡ true) × (b ≡ true)
+and-true true b h = (refl, h)
+and-true false b h = no-both false h refl
+
+date-same : (d e : Date) → sameDate d e ≡ true → d ≡ e
+date-same d e h =
+    let a = and-true (eqZ (d .year) (e .year)) (eqZ (d .month) (e .month) && eqZ (d .day) (e .day)) h in
+    let b = and-true (eqZ (d .month) (e .month)) (eqZ (d .day) (e .day)) (a .1) in
+    let p = eqZ-true (d .year) (e .year) (a .0) in
+    let q = eqZ-true (d .month) (e .month) (b .0) in
+    let r = eqZ-true (d .day) (e .day) (b .1) in
+    λ i. record { year = p i; month = q i; day = r i }
+
+other-date : (a b : ℕ) → a < b → sameDate (dateAfter a) (dateAfter b) ≡ false
+other-date a b h = go (sameDate (dateAfter a) (dateAfter b)) refl
+  where
+    go : (t : Bool) → sameDate (dateAfter a) (dateAfter b) ≡ t → t ≡ false
+    go true e = absurd (omega (arith, one-number a b (date-same (dateAfter a) (dateAfter b) e)))
+    go false e = refl
+
+pub until : (most i j : ℕ) → j ≤ most → daysUntil most (dateAfter i) (dateAfter (i + j)) ≡ j
+unfolding daysUntil dateAfter
+until zero i j h = omega arith
+until (suc most) i zero h = rw (add-zero i, same-date (dateAfter i))
+until (suc most) i (suc j) h =
+    rw (other-date i (i + suc j) (omega arith))
+    (ap suc (ap (λ k. daysUntil most (nextDay (dateAfter i)) (dateAfter k)) (add-suc i j ∙ sym (suc-add i j)) ∙ until most (suc i) j (omega arith)))
+
+from-first : (most n : ℕ) → daysUntil most firstDate (dateAfter n) ≡ daysUntil most (dateAfter 0) (dateAfter (0 + n))
+unfolding dateAfter
+from-first most n = ap (λ k. daysUntil most firstDate (dateAfter k)) (sym (zero-add n))
+
+pub count-after : (n : ℕ) → n ≤ lastDay → countOfDate (dateAfter n) ≡ firstCount +ℤ pos n
+unfolding countOfDate
+count-after n h = ap (λ k. firstCount +ℤ pos k) (from-first lastDay n ∙ until lastDay 0 n h)
+
+-- the years of the range, counted from baseYear, and their days
+start-first : start 400 ≡ cycle
+unfolding start leaps
+start-first = refl
+
+start-end : start 10400 ≡ cycle + (lastDay + 1)
+unfolding start leaps
+start-end = refl
+
+pub in-range : (y m d : ℕ) → Valid y m d → 400 ≤ y → y ≤ 10399 → (cycle ≤ count y m d) × (count y m d ≤ cycle + lastDay)
+in-range y m d v lo hi =
+    let w = within y m d v in
+    (omega (arith, start-first, start-monotone 400 y lo, w .0), omega (arith, start-end, start-monotone (y + 1) 10400 (omega arith), w .1))
+
+pub range-years : (n : ℕ) → n ≤ lastDay → (400 ≤ at n .year) × (at n .year ≤ 10399)
+range-years n h =
+    let a = at n in
+    let w = within (a .year) (a .month) (a .day) (a .valid) in (
+      by-contra _ _ (λ k. omega (arith, a .number, start-first, start-monotone (a .year + 1) 400 (omega arith), w .1)),
+      by-contra _ _ (λ k. omega (arith, a .number, start-end, start-monotone 10400 (a .year) (omega arith), w .0)),
+    )

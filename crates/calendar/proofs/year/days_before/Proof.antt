@@ -1,0 +1,31 @@
+use Rattle.calendar.proofs.Months.{table-rule, days-before}
+use native.Mathlib.Omega.{arith}
+use borrow.Author.Needs.{needs}
+use Rattle.calendar.proofs.year.days_before.Statement.{statement}
+use Rattle.calendar.proofs.year.days_before.Tie as tie
+use Rattle.calendar.proofs.year.days_before.Reads as reads
+use Rattle.calendar.proofs.year.days_before.Lts as lts
+
+sub-at : tie.Need-sub-at
+sub-at c = search needs
+
+cast-at : tie.Need-cast-at
+cast-at c = search needs
+
+mul-result : tie.Need-mul-result
+mul-result c = search needs
+
+array-read-result : tie.Need-array-read-result
+array-read-result c = search needs
+
+cast-result : tie.Need-cast-result
+unfolding days-before
+cast-result c = let r = table-rule (c .args .m) (omega arith) (omega arith) in record { fits = omega (arith, r .0, r .1) }
+
+returns : tie.Need-returns
+unfolding days-before
+returns c = let r = table-rule (c .args .m) (omega arith) (omega arith) in (r .0, omega (arith, r .0, r .1))
+
+pub days-before-spec : {M : Type 1} → statement M
+days-before-spec =
+    tie.close (tie.spec sub-at cast-at mul-result array-read-result cast-result returns)

@@ -1,0 +1,74 @@
+-- Closed forms on natural numbers, for proofs and private contracts only: nobody has to believe them. They are shown equal to the
+-- calendar by steps in proofs/Steps.antt. Years are counted from `baseYear`, 400 years before the first, so that the computational
+-- calendar of source document 000, section 6, whose years begin in March, needs no number below zero.
+use Prim.Native.Nat.{ℕ, zero, suc, _+_, _-_, _*_, _/_, _%_, _≤_}
+use mathlib.Core.Bool.{Bool, cond, not, _&&_}
+use mathlib.Core.List.{List, [], _∷_}
+use lib.Dec.{eqb, ltb}
+use lib.IntN.{ℤ, pos, negsuc, _+ℤ_}
+use lib.ListN.{getD}
+use Rattle.calendar.specs.Gregorian.{date}
+use Rattle.calendar.specs.declared.Date.{Date}
+
+abbrev pub baseYear : ℤ
+baseYear = negsuc 399
+
+-- the count of 1 January of baseYear
+abbrev pub baseCount : ℤ
+baseCount = negsuc 865624
+
+-- the days of 400 years
+abbrev pub cycle : ℕ
+cycle = 146097
+
+-- the last day of the range, counted from its first
+abbrev pub lastDay : ℕ
+lastDay = 3652424
+
+-- whether the year baseYear + y is leap
+unfoldable pub leapℕ : ℕ → Bool
+leapℕ y = eqb (y % 4) 0 && not (eqb (y % 100) 0 && not (eqb (y % 400) 0))
+
+-- its leap days: 0 or 1
+unfoldable pub leapDay : ℕ → ℕ
+leapDay y = cond (leapℕ y) 1 0
+
+-- the leap years before y
+unfoldable pub leaps : ℕ → ℕ
+leaps y = (y + 3) / 4 + (y + 399) / 400 - (y + 99) / 100
+
+-- the day on which year y begins, counted from 1 January of baseYear
+unfoldable pub start : ℕ → ℕ
+start y = 365 * y + leaps y
+
+-- the length of month m in a year with l leap days
+unfoldable pub monthDays : (l m : ℕ) → ℕ
+monthDays l m = getD (0 ∷ 31 ∷ (28 + l) ∷ 31 ∷ 30 ∷ 31 ∷ 30 ∷ 31 ∷ 31 ∷ 30 ∷ 31 ∷ 30 ∷ 31 ∷ []) m 0
+
+-- the days before month m of a year with l leap days
+unfoldable pub before : (l m : ℕ) → ℕ
+before l zero = 0
+before l (suc m) = before l m + monthDays l m
+
+-- year, month and day are a date
+pub record Valid (y m d : ℕ) : Type 0 where
+  pub month-low : 1 ≤ m
+  pub month-high : m ≤ 12
+  pub day-low : 1 ≤ d
+  pub day-high : d ≤ monthDays (leapDay y) m
+
+-- the day of a date, counted from 1 January of baseYear
+unfoldable pub count : (y m d : ℕ) → ℕ
+count y m d = start y + before (leapDay y) m + (d - 1)
+
+-- the date with the year baseYear + y
+abbrev pub public : (y m d : ℕ) → Date
+public y m d = date (baseYear +ℤ pos y) (pos m) (pos d)
+
+-- 1 for the days of January and February, the last of a year that begins on 1 March: Remark 1 of source document 000
+abbrev pub newYear : ℕ → ℕ
+newYear k = cond (ltb k 306) 0 1
+
+-- 1 in January and February, else 0
+abbrev pub beforeMarch : ℕ → ℕ
+beforeMarch m = cond (ltb m 3) 1 0

@@ -1,0 +1,53 @@
+-- The proleptic Gregorian calendar by steps: document 01, "Calendar rules". The leap rule is that of source document 000, section 6.
+use Prim.Native.Nat.{ℕ, zero, suc, _-_}
+use mathlib.Core.Path.{_≡_}
+use mathlib.Core.Bool.{Bool, true, cond, not, _&&_, _||_}
+use mathlib.Core.List.{List, [], _∷_}
+use lib.Dec.{eqb}
+use lib.IntN.{ℤ, pos, natAbs, _+ℤ_}
+use lib.ListN.{getD}
+use lib.Signed.{ltZ}
+use Rattle.numbers.specs.Floor.{floorRemainder}
+use Rattle.calendar.specs.Range.{firstYear}
+use Rattle.calendar.specs.declared.Date.{Date}
+
+abbrev pub divides : ℕ → ℤ → Bool
+divides d y = eqb (floorRemainder y d) 0
+
+-- a year is leap if 4 divides it, except where 100 divides it and 400 doesn't
+unfoldable pub leapYear : ℤ → Bool
+leapYear y = divides 4 y && not (divides 100 y && not (divides 400 y))
+
+-- the month lengths from January, of a leap year or a common one
+unfoldable pub monthLengths : (leap : Bool) → List ℕ
+monthLengths leap = 31 ∷ cond leap 29 28 ∷ 31 ∷ 30 ∷ 31 ∷ 30 ∷ 31 ∷ 31 ∷ 30 ∷ 31 ∷ 30 ∷ 31 ∷ []
+
+-- the length of month m, 1 to 12, of the year y
+unfoldable pub monthLength : (y m : ℤ) → ℤ
+monthLength y m = pos (getD (monthLengths (leapYear y)) (natAbs m - 1) 0)
+
+abbrev pub date : (year month day : ℤ) → Date
+date year month day = record { year = year; month = month; day = day }
+
+-- the day after
+unfoldable pub nextDay : Date → Date
+nextDay d =
+    cond (ltZ (d .day) (monthLength (d .year) (d .month)))
+    (date (d .year) (d .month) (d .day +ℤ pos 1))
+    (cond (ltZ (d .month) (pos 12))
+    (date (d .year) (d .month +ℤ pos 1) (pos 1))
+    (date (d .year +ℤ pos 1) (pos 1) (pos 1)))
+
+abbrev pub firstDate : Date
+firstDate = date firstYear (pos 1) (pos 1)
+
+-- the date n days after the first
+unfoldable pub dateAfter : ℕ → Date
+dateAfter zero = firstDate
+dateAfter (suc n) = nextDay (dateAfter n)
+
+-- d is an earlier date than e
+pub data Earlier (d e : Date) : Type 0 where
+  by-year : ltZ (d .year) (e .year) ≡ true → Earlier d e
+  by-month : d .year ≡ e .year → ltZ (d .month) (e .month) ≡ true → Earlier d e
+  by-day : d .year ≡ e .year → d .month ≡ e .month → ltZ (d .day) (e .day) ≡ true → Earlier d e

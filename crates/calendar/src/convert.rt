@@ -1,0 +1,49 @@
+// Conversions between dates and day counts in unsigned arithmetic, with ordinary divisions: source document 000, section 6,
+// algorithms 3 and 4, in the paper's names. Years are counted from BASE_YEAR, which is a multiple of 400.
+
+use super::range::BASE_YEAR;
+use super::year;
+use crate::Date;
+ghost use mathlib.Core.Path.{_≡_};
+ghost use Prim.Native.Nat.{_≤_, _+_};
+ghost use Rattle.calendar.specs.Gregorian.{dateAfter};
+ghost use Rattle.calendar.specs.Closed.{newYear, cycle, lastDay, Valid, count};
+
+// The date n days after the first.
+pub fn date_after(n: u32) -> Date
+    requires { ⌜ n ≤ lastDay ⌝ }
+    ensures { λ r. ⌜ r ≡ dateAfter n ⌝ }
+{
+    let n_1 = 4 * (n + 146037) + 3;
+    let c = n_1 / 146097;
+    let n_c = n_1 % 146097 / 4;
+    let n_2 = 4 * n_c + 3;
+    let z = n_2 / 1461;
+    let n_y = n_2 % 1461 / 4;
+    let n_3 = 5 * n_y + 461;
+    let m = n_3 / 153;
+    let d = n_3 % 153 / 5;
+    let j = new_year(n_y);
+    Date {
+        year: (100 * c + z + j) as i64 + BASE_YEAR,
+        month: (m - 12 * j) as i64,
+        day: (d + 1) as i64,
+    }
+}
+
+// 1 for the days of January and February, which end a year that begins in March.
+fn new_year(k: u32) -> u32
+    ensures { λ r. ⌜ (r ≡ newYear k) × (r ≤ 1) ⌝ }
+{
+    if k < 306 { 0 } else { 1 }
+}
+
+// The day of a date, counted from 1 January of BASE_YEAR.
+pub fn days_since_base(y: u32, m: u32, d: u32) -> u32
+    requires { ⌜ Valid y m d × ((400 ≤ y) × (y ≤ 10399)) ⌝ }
+    ensures { λ r. ⌜ (r ≡ count y m d) × ((cycle ≤ r) × (r ≤ cycle + lastDay)) ⌝ }
+{
+    let y_m = y - year::before_march(m);
+    let c = y_m / 100;
+    365 * y + y_m / 4 - c + c / 4 + year::days_before(m) + d
+}

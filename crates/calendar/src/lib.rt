@@ -1,0 +1,199 @@
+// The proleptic Gregorian calendar (document 01, "Calendar rules"). The names are Howard Hinnant's (source document 002).
+//
+//     days_from_civil(year, month, day)        day count       refusals 1, 2, 3
+//     civil_from_days(days)                    date            refusal 4
+//     weekday_from_days(days)                  weekday         refusal 4
+//     is_leap(year)                            leap flag       refusal 1
+//     last_day_of_month(year, month)           month length    refusals 1, 2
+//     day_of_year(year, month, day)            1 to 366        refusals 1, 2, 3
+//     add_days(year, month, day, days)         shifted date    refusals 1, 2, 3, then 4
+
+use range::BASE_COUNT;
+use range::BASE_YEAR;
+use range::FIRST_COUNT;
+use range::FIRST_WEEKDAY;
+use range::FIRST_YEAR;
+use range::LAST_COUNT;
+use range::LAST_YEAR;
+use refusal::Refusal;
+
+mod convert;
+mod range;
+mod year;
+
+ghost use mathlib.Core.Path.{_≡_};
+ghost use mathlib.Core.Bool.{false};
+ghost use Prim.Native.Nat.{_≤_};
+ghost use lib.IntN.{pos, _+ℤ_};
+ghost use Rattle.numbers.specs.Range.{outside, since};
+ghost use Rattle.refusal.specs.Outcome.{value};
+ghost use Rattle.calendar.specs.Range.{firstYear, lastYear, firstCount, lastCount};
+ghost use Rattle.calendar.specs.Count.{dateOfCount};
+ghost use Rattle.calendar.specs.Answers.{numberOutcome, dateOutcome, flagOutcome, leapAnswer, lastDayAnswer, ofDate, daysAnswer, dayOfYearAnswer, civilAnswer, weekdayAnswer, addDaysAnswer};
+ghost use Rattle.calendar.specs.Closed.{baseYear, lastDay};
+ghost use Rattle.calendar.specs.Checked.{checkedOutcome, CheckedValid};
+
+pub struct Date {
+    pub year: i64,
+    pub month: i64,
+    pub day: i64,
+}
+
+pub enum NumberAnswer {
+    Value(i64),
+    Refused(Refusal),
+}
+
+pub enum DateAnswer {
+    Value(Date),
+    Refused(Refusal),
+}
+
+pub enum FlagAnswer {
+    Value(bool),
+    Refused(Refusal),
+}
+
+// The count of a date.
+pub fn days_from_civil(year: i64, month: i64, day: i64) -> NumberAnswer
+    ensures { λ r. ⌜ numberOutcome r ≡ daysAnswer year month day ⌝ }
+{
+    match check_date(year, month, day) {
+        Checked::Date(y, m, d) => NumberAnswer::Value(
+            convert::days_since_base(y, m, d) as i64 + BASE_COUNT,
+        ),
+        Checked::Refused(r) => NumberAnswer::Refused(r),
+    }
+}
+
+// The date of a day count.
+pub fn civil_from_days(days: i64) -> DateAnswer
+    ensures { λ r. ⌜ dateOutcome r ≡ civilAnswer days ⌝ }
+{
+    if days < FIRST_COUNT {
+        return DateAnswer::Refused(Refusal::OutOfRange);
+    }
+    if days > LAST_COUNT {
+        return DateAnswer::Refused(Refusal::OutOfRange);
+    }
+    DateAnswer::Value(date_of_count(days))
+}
+
+// The weekday of a day count: 0 Sunday to 6 Saturday.
+pub fn weekday_from_days(days: i64) -> NumberAnswer
+    ensures { λ r. ⌜ numberOutcome r ≡ weekdayAnswer days ⌝ }
+{
+    if days < FIRST_COUNT {
+        return NumberAnswer::Refused(Refusal::OutOfRange);
+    }
+    if days > LAST_COUNT {
+        return NumberAnswer::Refused(Refusal::OutOfRange);
+    }
+    NumberAnswer::Value(((days_from_first(days) + FIRST_WEEKDAY) % 7) as i64)
+}
+
+// Whether a year is leap.
+pub fn is_leap(year: i64) -> FlagAnswer
+    ensures { λ r. ⌜ flagOutcome r ≡ leapAnswer year ⌝ }
+{
+    if year < FIRST_YEAR {
+        return FlagAnswer::Refused(Refusal::YearOutOfRange);
+    }
+    if year > LAST_YEAR {
+        return FlagAnswer::Refused(Refusal::YearOutOfRange);
+    }
+    FlagAnswer::Value(year::leap_day(years_from_base(year)) == 1)
+}
+
+// The length of a month.
+pub fn last_day_of_month(year: i64, month: i64) -> NumberAnswer
+    ensures { λ r. ⌜ numberOutcome r ≡ lastDayAnswer year month ⌝ }
+{
+    if year < FIRST_YEAR {
+        return NumberAnswer::Refused(Refusal::YearOutOfRange);
+    }
+    if year > LAST_YEAR {
+        return NumberAnswer::Refused(Refusal::YearOutOfRange);
+    }
+    match month {
+        1 | 3 | 5 | 7 | 8 | 10 | 12 => NumberAnswer::Value(31),
+        4 | 6 | 9 | 11 => NumberAnswer::Value(30),
+        2 => NumberAnswer::Value((28 + year::leap_day(years_from_base(year))) as i64),
+        _ => NumberAnswer::Refused(Refusal::MonthOutOfRange),
+    }
+}
+
+// The day of the year of a date, from 1.
+pub fn day_of_year(year: i64, month: i64, day: i64) -> NumberAnswer
+    ensures { λ r. ⌜ numberOutcome r ≡ dayOfYearAnswer year month day ⌝ }
+{
+    match check_date(year, month, day) {
+        Checked::Date(y, m, d) => NumberAnswer::Value((year::days_before_month(y, m) + d) as i64),
+        Checked::Refused(r) => NumberAnswer::Refused(r),
+    }
+}
+
+// The date that lies `days` days after a date, or before it where `days` is below zero.
+pub fn add_days(year: i64, month: i64, day: i64, days: i64) -> DateAnswer
+    ensures { λ r. ⌜ dateOutcome r ≡ addDaysAnswer year month day days ⌝ }
+{
+    match days_from_civil(year, month, day) {
+        NumberAnswer::Value(count) => {
+            if days < FIRST_COUNT - count {
+                return DateAnswer::Refused(Refusal::OutOfRange);
+            }
+            if days > LAST_COUNT - count {
+                return DateAnswer::Refused(Refusal::OutOfRange);
+            }
+            DateAnswer::Value(date_of_count(count + days))
+        }
+        NumberAnswer::Refused(r) => DateAnswer::Refused(r),
+    }
+}
+
+// A tested date, its year counted from BASE_YEAR.
+enum Checked {
+    Date(u32, u32, u32),
+    Refused(Refusal),
+}
+
+fn check_date(year: i64, month: i64, day: i64) -> Checked
+    ensures { λ r. ⌜ (checkedOutcome r ≡ ofDate year month day value) × CheckedValid r ⌝ }
+{
+    match last_day_of_month(year, month) {
+        NumberAnswer::Value(length) => {
+            if day < 1 {
+                return Checked::Refused(Refusal::DayOutOfRange);
+            }
+            if day > length {
+                return Checked::Refused(Refusal::DayOutOfRange);
+            }
+            Checked::Date(years_from_base(year), month as u32, day as u32)
+        }
+        NumberAnswer::Refused(r) => Checked::Refused(r),
+    }
+}
+
+// The date of a count in the range.
+fn date_of_count(days: i64) -> Date
+    requires { ⌜ outside firstCount lastCount days ≡ false ⌝ }
+    ensures { λ r. ⌜ r ≡ dateOfCount days ⌝ }
+{
+    convert::date_after(days_from_first(days))
+}
+
+// A count in the range, from the first one on.
+fn days_from_first(days: i64) -> u32
+    requires { ⌜ outside firstCount lastCount days ≡ false ⌝ }
+    ensures { λ r. ⌜ (r ≡ since firstCount days) × (r ≤ lastDay) ⌝ }
+{
+    (days - FIRST_COUNT) as u32
+}
+
+// A year in the range, from BASE_YEAR on.
+fn years_from_base(year: i64) -> u32
+    requires { ⌜ outside firstYear lastYear year ≡ false ⌝ }
+    ensures { λ r. ⌜ (baseYear +ℤ pos r ≡ year) × ((400 ≤ r) × (r ≤ 10399)) ⌝ }
+{
+    (year - BASE_YEAR) as u32
+}

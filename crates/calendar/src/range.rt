@@ -1,0 +1,18 @@
+// The range of the calendar: document 01, "Calendar rules", Range.
+
+pub const FIRST_YEAR: i64 = 0;
+
+pub const LAST_YEAR: i64 = 9999;
+
+// The counts of the first day of the first year and of the last day of the last.
+pub const FIRST_COUNT: i64 = -719528;
+
+pub const LAST_COUNT: i64 = 2932896;
+
+// The weekday of the first day: Saturday.
+pub const FIRST_WEEKDAY: u32 = 6;
+
+// 400 years before the first year, and the count of the first day then: inside, years and days are counted from there.
+pub const BASE_YEAR: i64 = FIRST_YEAR - 400;
+
+pub const BASE_COUNT: i64 = FIRST_COUNT - 146097;

@@ -1,0 +1,49 @@
+// The leap rule and the days before each month, of years that are counted from BASE_YEAR, a multiple of 400.
+
+ghost use mathlib.Core.Path.{_≡_};
+ghost use Prim.Native.Nat.{_≤_, _%_, _/_};
+ghost use Rattle.calendar.specs.Closed.{leapDay, before, beforeMarch};
+
+// Days before each month in a common year: document 01, "Calendar rules".
+const DAYS_BEFORE: [u16; 12] = [0, 31, 59, 90, 120, 151, 181, 212, 243, 273, 304, 334];
+
+// 1 in a leap year, else 0: 4 divides the year, or its century where 100 divides it.
+pub fn leap_day(y: u32) -> u32
+    ensures { λ r. ⌜ (r ≡ leapDay y) × (r ≤ 1) ⌝ }
+{
+    if year_or_century(y) % 4 == 0 { 1 } else { 0 }
+}
+
+fn year_or_century(y: u32) -> u32
+    ensures century { λ r. ⌜ (y % 100 ≡ 0 → r ≡ y / 100) ⌝ }
+    ensures year { λ r. ⌜ ((y % 100 ≡ 0 → ⊥) → r ≡ y) ⌝ }
+{
+    if y % 100 == 0 { y / 100 } else { y }
+}
+
+// The days before month m in a common year.
+pub fn days_before(m: u32) -> u32
+    requires { ⌜ (1 ≤ m) × (m ≤ 12) ⌝ }
+    ensures { λ r. ⌜ (r ≡ before 0 m) × (r ≤ 334) ⌝ }
+{
+    let at = (m - 1) as usize;
+    DAYS_BEFORE[at] as u32
+}
+
+// 1 in January and February, else 0.
+pub fn before_march(m: u32) -> u32
+    ensures { λ r. ⌜ (r ≡ beforeMarch m) × (r ≤ 1) ⌝ }
+{
+    if m < 3 { 1 } else { 0 }
+}
+
+// The days before month m of the year y.
+pub fn days_before_month(y: u32, m: u32) -> u32
+    requires { ⌜ (1 ≤ m) × (m ≤ 12) ⌝ }
+    ensures { λ r. ⌜ (r ≡ before (leapDay y) m) × (r ≤ 335) ⌝ }
+{
+    if m < 3 {
+        return days_before(m);
+    }
+    days_before(m) + leap_day(y)
+}
