@@ -1,20 +1,20 @@
 -- What the two conversions compute, in the machine's numbers.
-use Prim.Native.Nat.{ℕ, zero, suc, _+_, _-_, _*_, _/_, _%_, _^_, _≤_, _<_}
-use mathlib.Core.Path.{_≡_, refl, sym, ap, _∙_, subst}
-use mathlib.Core.Bool.{Bool, true, false, cond}
+use Prim.Native.Nat.{ℕ, _+_, _-_, _*_, _/_, _%_, _^_, _≤_, _<_}
+use mathlib.Core.Path.{_≡_, sym, ap, _∙_, subst}
+use mathlib.Core.Bool.{cond}
 use native.Mathlib.Decide.{decLt}
 use native.Mathlib.Omega.{arith}
-use lib.IntN.{ℤ, pos, _+ℤ_, +ℤ-comm}
+use lib.IntN.{pos, _+ℤ_, +ℤ-comm}
 use borrow.Author.Tests.{lt-ltb, le-ltb}
 use mir.Syntax.{w64}
-use mir.Val.{SFits, toZ, ofZ}
+use mir.Val.{SFits, toZ}
 use mir.Facts.{toZ-pos}
 use Rattle.numbers.proofs.Machine.{read, add-first, add-first-is}
 use Rattle.calendar.specs.Gregorian.{date, dateAfter}
-use Rattle.calendar.specs.Closed.{baseYear, cycle, lastDay, leapDay, leaps, start, before, Valid, count, public, newYear, beforeMarch}
+use Rattle.calendar.specs.Closed.{fromYear, baseYear, lastDay, leapDay, leaps, start, before, Valid, count, public, newYear, beforeMarch}
 use Rattle.calendar.proofs.Leap.{leaps-step, leaps-next}
 use Rattle.calendar.proofs.Months.{before-early, before-late}
-use Rattle.calendar.proofs.March.{centuryOf, dayOfCentury, yearOfCentury, dayOfMarchYear, algorithm-3}
+use Rattle.calendar.proofs.March.{centuryOf, yearOfCentury, dayOfMarchYear, algorithm-3}
 
 -- a date of natural numbers as the machine makes it
 made : (y m d : ℕ) → y < 2 ^ 32 → m < 2 ^ 32 → d < 2 ^ 32 → date (read (toZ w64 y +ℤ baseYear)) (toZ w64 m) (toZ w64 d) ≡ public y m d
@@ -57,7 +57,7 @@ fewer : (y : ℕ) → y / 100 ≤ y / 4
 fewer y = omega arith
 
 pub algorithm-4 :
-    (y m d j b : ℕ) → Valid y m d → 400 ≤ y → j ≡ beforeMarch m → b ≡ before 0 m →
+    (y m d j b : ℕ) → Valid y m d → fromYear ≤ y → j ≡ beforeMarch m → b ≡ before 0 m →
     365 * y + (y - j) / 4 - (y - j) / 100 + (y - j) / 100 / 4 + b + d ≡ count y m d
 unfolding count start
 algorithm-4 y m d j b v lo e f = go (decLt m 3)

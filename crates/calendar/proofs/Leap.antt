@@ -1,6 +1,6 @@
 -- The leap rule on years counted from baseYear, and the number of leap years before a year.
-use Prim.Native.Nat.{ℕ, zero, suc, _+_, _-_, _*_, _/_, _%_, _≤_, _<_}
-use mathlib.Core.Path.{_≡_, refl, sym, ap, ap₂, _∙_}
+use Prim.Native.Nat.{ℕ, _+_, _-_, _/_, _%_, _≤_}
+use mathlib.Core.Path.{_≡_, refl, ap, _∙_}
 use mathlib.Core.Bool.{Bool, true, false, cond, not, _&&_}
 use native.Mathlib.Decide.{ℕ-discrete}
 use native.Mathlib.Omega.{arith}
@@ -9,7 +9,7 @@ use lib.IntN.{pos, _+ℤ_}
 use borrow.Author.Tests.{eqb-true, eqb-false}
 use Rattle.numbers.specs.Floor.{floorRemainder}
 use Rattle.numbers.proofs.Integers.{on-sub}
-use Rattle.calendar.specs.Gregorian.{divides, leapYear}
+use Rattle.calendar.specs.Gregorian.{leapYear}
 use Rattle.calendar.specs.Closed.{baseYear, leapℕ, leapDay, leaps}
 
 -- the four cases of the rule

@@ -1,7 +1,7 @@
 -- What the match on the month answers.
-use Prim.Native.Nat.{ℕ, zero, suc, _+_, _-_, _^_, _≤_, _<_}
-use mathlib.Core.Path.{_≡_, refl, sym, ap, _∙_, subst}
-use mathlib.Core.Bool.{Bool, true, false, cond, _||_}
+use Prim.Native.Nat.{ℕ, _+_, _^_, _≤_, _<_}
+use mathlib.Core.Path.{_≡_, sym, ap, _∙_}
+use mathlib.Core.Bool.{true, false, cond}
 use native.Mathlib.Decide.{ℕ-discrete}
 use native.Mathlib.Omega.{arith}
 use lib.Dec.{ltb}
@@ -16,7 +16,7 @@ use Rattle.numbers.specs.Range.{outside, since}
 use Rattle.numbers.proofs.Integers.{add-since}
 use Rattle.numbers.proofs.Machine.{read, tested-below, tested-above}
 use Rattle.calendar.specs.Range.{firstYear, lastYear}
-use Rattle.calendar.specs.Gregorian.{leapYear, monthLengths, monthLength}
+use Rattle.calendar.specs.Gregorian.{monthLengths, monthLength}
 use Rattle.calendar.specs.Answers.{lastDayAnswer}
 use Rattle.calendar.specs.Closed.{baseYear, leapDay, monthDays}
 use Rattle.calendar.proofs.Months.{length-public}

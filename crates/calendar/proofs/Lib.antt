@@ -2,9 +2,12 @@ pub mod Leap
 pub mod Months
 pub mod Order
 pub mod Steps
+pub mod Weekday
 pub mod Tested
 pub mod Lengths
+pub mod Tests
 pub mod Dates
 pub mod Shift
 pub mod March
 pub mod Conversion
+pub mod Laws

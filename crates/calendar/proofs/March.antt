@@ -1,8 +1,8 @@
 -- Algorithm 3 of source document 000, section 6, is the calendar by steps. Its years begin on 1 March: day z of these years lies in
 -- the century C on its day R, in the year Z of the century on its day k.
-use Prim.Native.Nat.{ℕ, zero, suc, _+_, _-_, _*_, _/_, _%_, _≤_, _<_}
-use mathlib.Core.Path.{_≡_, refl, sym, ap, _∙_, subst}
-use mathlib.Core.Bool.{Bool, true, false, cond}
+use Prim.Native.Nat.{ℕ, _+_, _-_, _*_, _/_, _%_, _≤_, _<_}
+use mathlib.Core.Path.{_≡_, sym, ap, _∙_, subst}
+use mathlib.Core.Bool.{cond}
 use native.Mathlib.Decide.{decLt}
 use native.Mathlib.Omega.{arith, by-contra}
 use borrow.Author.Tests.{lt-ltb, le-ltb}

@@ -1,10 +1,10 @@
 -- The closed day number of a date: later dates have larger numbers, and a number has one date.
-use Prim.Native.Nat.{ℕ, _+_, _-_, _*_, _≤_, _<_}
-use mathlib.Core.Path.{_≡_, refl, sym, ap, ap₂}
+use Prim.Native.Nat.{ℕ, _+_, _≤_, _<_}
+use mathlib.Core.Path.{_≡_, sym, ap, ap₂}
 use native.Mathlib.Decide.{decLt}
 use native.Mathlib.Numerals.{add-one}
 use native.Mathlib.Omega.{arith}
-use Rattle.calendar.specs.Closed.{leapDay, leaps, start, monthDays, before, Valid, count}
+use Rattle.calendar.specs.Closed.{leapDay, start, before, Valid, count}
 use Rattle.calendar.proofs.Leap.{leaps-step}
 use Rattle.calendar.proofs.Months.{before-step, before-monotone, within-year, monotone}
 

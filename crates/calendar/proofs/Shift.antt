@@ -1,10 +1,10 @@
 -- A count in the range and a shift of it: the tests that decide whether the sum is in the range, before it is taken.
-use Prim.Native.Nat.{ℕ, _+_, _≤_, _<_, _^_}
+use Prim.Native.Nat.{_<_, _^_}
 use mathlib.Core.Path.{_≡_, refl, sym, ap, ap₂, _∙_, subst}
-use mathlib.Core.Bool.{Bool, true, false}
+use mathlib.Core.Bool.{true, false}
 use native.Mathlib.Omega.{arith}
 use lib.Dec.{lit<}
-use lib.IntN.{ℤ, pos, _+ℤ_, _-ℤ_}
+use lib.IntN.{ℤ, _+ℤ_, _-ℤ_}
 use lib.Signed.{ltZ, mag}
 use mir.Syntax.{w64}
 use mir.Val.{SFits}
@@ -13,7 +13,6 @@ use Rattle.numbers.specs.Range.{outside, since}
 use Rattle.numbers.proofs.Integers.{lt-shift, add-difference, add-since, since-le, below-outside, above-outside, not-outside, outside-no}
 use Rattle.numbers.proofs.Machine.{read, sub-fits, mag-since}
 use Rattle.calendar.specs.Range.{firstCount, lastCount}
-use Rattle.calendar.specs.Closed.{lastDay}
 
 -- a count in the range is small
 pub count-small : (z : ℤ) → outside firstCount lastCount z ≡ false → mag z < 2 ^ 61

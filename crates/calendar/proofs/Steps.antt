@@ -1,22 +1,21 @@
 -- The calendar by steps is the closed forms: the date n days after the first is the one date with the day number 146097 + n.
-use Prim.Native.Nat.{ℕ, zero, suc, _+_, _-_, _*_, _≤_, _<_}
-use mathlib.Core.Path.{_≡_, refl, sym, ap, ap₂, _∙_, subst}
-use mathlib.Core.Bool.{Bool, true, false, cond, _&&_}
+use Prim.Native.Nat.{ℕ, zero, suc, _+_, _≤_, _<_}
+use mathlib.Core.Path.{_≡_, refl, sym, ap, _∙_, subst}
+use mathlib.Core.Bool.{Bool, true, false, _&&_}
 use native.Mathlib.Decide.{decLt}
 use native.Mathlib.Nat.{add-zero, zero-add, add-suc, suc-add}
 use native.Mathlib.Omega.{arith, by-contra}
-use lib.IntN.{ℤ, pos, natAbs, _+ℤ_, +ℤ-assoc}
+use lib.IntN.{pos, natAbs, _+ℤ_, +ℤ-assoc}
 use borrow.Author.Tests.{lt-ltb, le-ltb}
-use Rattle.numbers.specs.Range.{since, eqZ}
+use Rattle.numbers.specs.Range.{eqZ}
 use Rattle.numbers.proofs.Integers.{eqZ-same, eqZ-true, add-injective, no-both}
 use Rattle.calendar.specs.declared.Date.{Date}
-use Rattle.calendar.specs.Range.{firstCount, lastCount}
-use Rattle.calendar.specs.Gregorian.{monthLength, date, nextDay, firstDate, dateAfter}
+use Rattle.calendar.specs.Range.{firstCount}
+use Rattle.calendar.specs.Gregorian.{date, nextDay, firstDate, dateAfter}
 use Rattle.calendar.specs.Count.{sameDate, daysUntil, countOfDate}
-use Rattle.calendar.specs.Closed.{baseYear, cycle, lastDay, leapDay, leapℕ, leaps, start, monthDays, before, Valid, count, public}
-use Rattle.calendar.proofs.Leap.{leaps-step}
+use Rattle.calendar.specs.Closed.{fromYear, toYear, baseYear, cycle, lastDay, leapDay, leapℕ, leaps, start, monthDays, before, Valid, count, public}
 use Rattle.calendar.proofs.Months.{length-positive, before-step, before-first, year-end, length-public}
-use Rattle.calendar.proofs.Order.{start-step, start-monotone, within, Before, before-less, trichotomy}
+use Rattle.calendar.proofs.Order.{start-step, start-monotone, within, before-less, trichotomy}
 
 -- the three cases of the day after
 next-in-month : (y m d : ℕ) → 1 ≤ m → m ≤ 12 → d < monthDays (leapDay y) m → nextDay (public y m d) ≡ public y m (d + 1)
@@ -204,12 +203,12 @@ start-end : start 10400 ≡ cycle + (lastDay + 1)
 unfolding start leaps
 start-end = refl
 
-pub in-range : (y m d : ℕ) → Valid y m d → 400 ≤ y → y ≤ 10399 → (cycle ≤ count y m d) × (count y m d ≤ cycle + lastDay)
+pub in-range : (y m d : ℕ) → Valid y m d → fromYear ≤ y → y ≤ toYear → (cycle ≤ count y m d) × (count y m d ≤ cycle + lastDay)
 in-range y m d v lo hi =
     let w = within y m d v in
     (omega (arith, start-first, start-monotone 400 y lo, w .0), omega (arith, start-end, start-monotone (y + 1) 10400 (omega arith), w .1))
 
-pub range-years : (n : ℕ) → n ≤ lastDay → (400 ≤ at n .year) × (at n .year ≤ 10399)
+pub range-years : (n : ℕ) → n ≤ lastDay → (fromYear ≤ at n .year) × (at n .year ≤ toYear)
 range-years n h =
     let a = at n in
     let w = within (a .year) (a .month) (a .day) (a .valid) in (

@@ -3,7 +3,7 @@
 -- calendar of source document 000, section 6, whose years begin in March, needs no number below zero.
 use Prim.Native.Nat.{ℕ, zero, suc, _+_, _-_, _*_, _/_, _%_, _≤_}
 use mathlib.Core.Bool.{Bool, cond, not, _&&_}
-use mathlib.Core.List.{List, [], _∷_}
+use mathlib.Core.List.{[], _∷_}
 use lib.Dec.{eqb, ltb}
 use lib.IntN.{ℤ, pos, negsuc, _+ℤ_}
 use lib.ListN.{getD}
@@ -16,6 +16,13 @@ baseYear = negsuc 399
 -- the count of 1 January of baseYear
 abbrev pub baseCount : ℤ
 baseCount = negsuc 865624
+
+-- the first and the last year of the range, counted from baseYear
+abbrev pub fromYear : ℕ
+fromYear = 400
+
+abbrev pub toYear : ℕ
+toYear = 10399
 
 -- the days of 400 years
 abbrev pub cycle : ℕ

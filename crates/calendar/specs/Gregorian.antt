@@ -1,14 +1,15 @@
 -- The proleptic Gregorian calendar by steps: document 01, "Calendar rules". The leap rule is that of source document 000, section 6.
 use Prim.Native.Nat.{ℕ, zero, suc, _-_}
 use mathlib.Core.Path.{_≡_}
-use mathlib.Core.Bool.{Bool, true, cond, not, _&&_, _||_}
+use mathlib.Core.Bool.{Bool, true, false, cond, not, _&&_}
 use mathlib.Core.List.{List, [], _∷_}
 use lib.Dec.{eqb}
 use lib.IntN.{ℤ, pos, natAbs, _+ℤ_}
 use lib.ListN.{getD}
 use lib.Signed.{ltZ}
 use Rattle.numbers.specs.Floor.{floorRemainder}
-use Rattle.calendar.specs.Range.{firstYear}
+use Rattle.numbers.specs.Range.{outside}
+use Rattle.calendar.specs.Range.{firstYear, lastYear}
 use Rattle.calendar.specs.declared.Date.{Date}
 
 abbrev pub divides : ℕ → ℤ → Bool
@@ -45,6 +46,12 @@ firstDate = date firstYear (pos 1) (pos 1)
 unfoldable pub dateAfter : ℕ → Date
 dateAfter zero = firstDate
 dateAfter (suc n) = nextDay (dateAfter n)
+
+-- a valid date of the years of the range
+pub record ValidDate (d : Date) : Type 0 where
+  pub year-inside : outside firstYear lastYear (d .year) ≡ false
+  pub month-inside : outside (pos 1) (pos 12) (d .month) ≡ false
+  pub day-inside : outside (pos 1) (monthLength (d .year) (d .month)) (d .day) ≡ false
 
 -- d is an earlier date than e
 pub data Earlier (d e : Date) : Type 0 where

@@ -7,7 +7,7 @@ use crate::Date;
 ghost use mathlib.Core.Path.{_≡_};
 ghost use Prim.Native.Nat.{_≤_, _+_};
 ghost use Rattle.calendar.specs.Gregorian.{dateAfter};
-ghost use Rattle.calendar.specs.Closed.{newYear, cycle, lastDay, Valid, count};
+ghost use Rattle.calendar.specs.Closed.{fromYear, toYear, newYear, cycle, lastDay, Valid, count};
 
 // The date n days after the first.
 pub fn date_after(n: u32) -> Date
@@ -40,7 +40,7 @@ fn new_year(k: u32) -> u32
 
 // The day of a date, counted from 1 January of BASE_YEAR.
 pub fn days_since_base(y: u32, m: u32, d: u32) -> u32
-    requires { ⌜ Valid y m d × ((400 ≤ y) × (y ≤ 10399)) ⌝ }
+    requires { ⌜ Valid y m d × ((fromYear ≤ y) × (y ≤ toYear)) ⌝ }
     ensures { λ r. ⌜ (r ≡ count y m d) × ((cycle ≤ r) × (r ≤ cycle + lastDay)) ⌝ }
 {
     let y_m = y - year::before_march(m);

@@ -30,7 +30,7 @@ ghost use Rattle.refusal.specs.Outcome.{value};
 ghost use Rattle.calendar.specs.Range.{firstYear, lastYear, firstCount, lastCount};
 ghost use Rattle.calendar.specs.Count.{dateOfCount};
 ghost use Rattle.calendar.specs.Answers.{numberOutcome, dateOutcome, flagOutcome, leapAnswer, lastDayAnswer, ofDate, daysAnswer, dayOfYearAnswer, civilAnswer, weekdayAnswer, addDaysAnswer};
-ghost use Rattle.calendar.specs.Closed.{baseYear, lastDay};
+ghost use Rattle.calendar.specs.Closed.{fromYear, toYear, baseYear, lastDay};
 ghost use Rattle.calendar.specs.Checked.{checkedOutcome, CheckedValid};
 
 pub struct Date {
@@ -193,7 +193,7 @@ fn days_from_first(days: i64) -> u32
 // A year in the range, from BASE_YEAR on.
 fn years_from_base(year: i64) -> u32
     requires { ⌜ outside firstYear lastYear year ≡ false ⌝ }
-    ensures { λ r. ⌜ (baseYear +ℤ pos r ≡ year) × ((400 ≤ r) × (r ≤ 10399)) ⌝ }
+    ensures { λ r. ⌜ (baseYear +ℤ pos r ≡ year) × ((fromYear ≤ r) × (r ≤ toYear)) ⌝ }
 {
     (year - BASE_YEAR) as u32
 }

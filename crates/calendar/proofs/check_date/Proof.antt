@@ -1,4 +1,7 @@
-use Rattle.calendar.proofs.Dates.{month-refused, of-read, day-small, day-too-small, day-too-large, tested, year-inside, checked}
+use Rattle.calendar.specs.declared.Date.{Date}
+use Rattle.calendar.specs.Gregorian.{date}
+use Rattle.calendar.proofs.Dates.{natural, day-small, day-too-small, day-too-large, tested-valid, checked}
+use Rattle.calendar.proofs.Tests.{month-refused, of-read}
 use Rattle.calendar.specs.Answers.{numberOutcome, lastDayAnswer}
 use Rattle.numbers.proofs.Machine.{read, cast-pos}
 use Rattle.refusal.specs.Numbers.{refusalNumber}
@@ -8,14 +11,9 @@ use mir.Val.{SFits}
 use mir.Syntax.{w32, w64}
 use native.Mathlib.Omega.{arith}
 use mathlib.Core.Path.{_≡_, sym, ap, _∙_}
-use Prim.Native.Nat.{_≤_}
 use borrow.Author.Needs.{needs}
 use Rattle.calendar.proofs.check_date.Statement.{statement}
 use Rattle.calendar.proofs.check_date.Tie as tie
-use Rattle.calendar.proofs.check_date.Reads as reads
-use Rattle.calendar.proofs.check_date.Lts as lts
-use Rattle.calendar.proofs.last_day_of_month.Reads as last-day-of-month-reads
-use Rattle.calendar.proofs.years_from_base.Reads as years-from-base-reads
 
 last-day-of-month-requires : tie.Need-last-day-of-month-requires
 last-day-of-month-requires c κs = search needs
@@ -29,7 +27,7 @@ returns c = let s = c .before .before .before .before .before in
     let f : SFits w64 (g .0 .0) = search needs in
     let e : value (read (g .0 .0)) ≡ lastDayAnswer (read (s .args .year)) (read (s .args .month)) =
     ap value (toZ-ofZ f) ∙ ap numberOutcome (sym (g .1)) ∙ c .before .before .before .before .last-day-of-month .ensures in
-    (day-too-small (read (s .args .year)) (read (s .args .month)) (read (s .args .day)) (read (g .0 .0)) e (c .if1 .taken) ∙ of-read value (s .fits .year) (s .fits .month) (s .fits .day), tt)
+    (day-too-small (read (s .args .year)) (read (s .args .month)) (read (s .args .day)) (read (g .0 .0)) e (c .if1 .taken) ∙ of-read (s .fits .year) (s .fits .month) (s .fits .day) value, tt)
 
 returns-2 : tie.Need-returns-2
 returns-2 c = let s = c .before .before .before .before .before .before in
@@ -37,7 +35,7 @@ returns-2 c = let s = c .before .before .before .before .before .before in
     let f : SFits w64 (g .0 .0) = search needs in
     let e : value (read (g .0 .0)) ≡ lastDayAnswer (read (s .args .year)) (read (s .args .month)) =
     ap value (toZ-ofZ f) ∙ ap numberOutcome (sym (g .1)) ∙ c .before .before .before .before .before .last-day-of-month .ensures in
-    (day-too-large (read (s .args .year)) (read (s .args .month)) (read (s .args .day)) (read (g .0 .0)) e (c .before .if1 .left) (c .if2 .taken) ∙ of-read value (s .fits .year) (s .fits .month) (s .fits .day), tt)
+    (day-too-large (read (s .args .year)) (read (s .args .month)) (read (s .args .day)) (read (g .0 .0)) e (c .before .if1 .left) (c .if2 .taken) ∙ of-read (s .fits .year) (s .fits .month) (s .fits .day) value, tt)
 
 years-from-base-requires : tie.Need-years-from-base-requires
 years-from-base-requires c κs = let s = c .before .before .before .before .before .before in
@@ -45,7 +43,7 @@ years-from-base-requires c κs = let s = c .before .before .before .before .befo
     let f : SFits w64 (g .0 .0) = search needs in
     let e : value (read (g .0 .0)) ≡ lastDayAnswer (read (s .args .year)) (read (s .args .month)) =
     ap value (toZ-ofZ f) ∙ ap numberOutcome (sym (g .1)) ∙ c .before .before .before .before .before .last-day-of-month .ensures in
-    year-inside (read (s .args .year)) (read (s .args .month)) (read (s .args .day)) (read (g .0 .0)) e (c .before .if1 .left) (c .if2 .left)
+    tested-valid (read (s .args .year)) (read (s .args .month)) (read (s .args .day)) (read (g .0 .0)) e (c .before .if1 .left) (c .if2 .left) .year-inside
 
 cast-t12 : tie.Need-cast-t12
 cast-t12 c = let s = c .before .before .before .before .before .before .before in
@@ -53,8 +51,8 @@ cast-t12 c = let s = c .before .before .before .before .before .before .before i
     let f : SFits w64 (g .0 .0) = search needs in
     let e : value (read (g .0 .0)) ≡ lastDayAnswer (read (s .args .year)) (read (s .args .month)) =
     ap value (toZ-ofZ f) ∙ ap numberOutcome (sym (g .1)) ∙ c .before .before .before .before .before .before .last-day-of-month .ensures in
-    let n = tested (read (s .args .year)) (read (s .args .month)) (read (s .args .day)) (read (g .0 .0)) e (c .before .before .if1 .left) (c .before .if2 .left) in
-    cast-pos w32 (n .m) (omega (arith, n .valid .month-high)) (n .month-is)
+    let n = natural (date (read (s .args .year)) (read (s .args .month)) (read (s .args .day))) (tested-valid (read (s .args .year)) (read (s .args .month)) (read (s .args .day)) (read (g .0 .0)) e (c .before .before .if1 .left) (c .before .if2 .left)) in
+    cast-pos w32 (n .m) (omega (arith, n .valid .month-high)) (ap (λ (d : Date). d .month) (n .is))
 
 cast-t13 : tie.Need-cast-t13
 cast-t13 c = let s = c .before .before .before .before .before .before .before in
@@ -62,8 +60,8 @@ cast-t13 c = let s = c .before .before .before .before .before .before .before i
     let f : SFits w64 (g .0 .0) = search needs in
     let e : value (read (g .0 .0)) ≡ lastDayAnswer (read (s .args .year)) (read (s .args .month)) =
     ap value (toZ-ofZ f) ∙ ap numberOutcome (sym (g .1)) ∙ c .before .before .before .before .before .before .last-day-of-month .ensures in
-    let n = tested (read (s .args .year)) (read (s .args .month)) (read (s .args .day)) (read (g .0 .0)) e (c .before .before .if1 .left) (c .before .if2 .left) in
-    cast-pos w32 (n .d) (omega (arith, n .valid .day-high, day-small (n .y) (n .m) (n .valid .month-low) (n .valid .month-high))) (n .day-is)
+    let n = natural (date (read (s .args .year)) (read (s .args .month)) (read (s .args .day))) (tested-valid (read (s .args .year)) (read (s .args .month)) (read (s .args .day)) (read (g .0 .0)) e (c .before .before .if1 .left) (c .before .if2 .left)) in
+    cast-pos w32 (n .d) (omega (arith, day-small (n .y) (n .m) (n .d) (n .valid))) (ap (λ (d : Date). d .day) (n .is))
 
 enum-known-r : tie.Need-enum-known-r
 enum-known-r c = search needs
@@ -75,13 +73,13 @@ returns-3 c = let s = c .before .before .before .before .before .before .before 
     let e : value (read (g .0 .0)) ≡ lastDayAnswer (read (s .args .year)) (read (s .args .month)) =
     ap value (toZ-ofZ f) ∙ ap numberOutcome (sym (g .1)) ∙ c .before .before .before .before .before .before .last-day-of-month .ensures in
     let k = checked (read (s .args .year)) (read (s .args .month)) (read (s .args .day)) (read (g .0 .0)) e (c .before .before .if1 .left) (c .before .if2 .left) (c .years-from-base .result) (c .years-from-base .ensures .0) in
-    (k .0 ∙ of-read value (s .fits .year) (s .fits .month) (s .fits .day), k .1)
+    (k .0 ∙ of-read (s .fits .year) (s .fits .month) (s .fits .day) value, k .1)
 
 returns-4 : tie.Need-returns-4
 returns-4 c = let s = c .before .before .before .before in
     let g = c .before .r .given in (
       month-refused (read (s .args .year)) (read (s .args .month)) (read (s .args .day)) value (refusalNumber (g .0 .0))
-          (ap numberOutcome (sym (g .1)) ∙ c .before .before .before .last-day-of-month .ensures) ∙ of-read value (s .fits .year) (s .fits .month) (s .fits .day),
+          (ap numberOutcome (sym (g .1)) ∙ c .before .before .before .last-day-of-month .ensures) ∙ of-read (s .fits .year) (s .fits .month) (s .fits .day) value,
       tt,
     )
 

@@ -5,12 +5,9 @@ use Rattle.numbers.proofs.Machine.{read, tested-below, tested-above, tested-ins
 use Rattle.numbers.proofs.Integers.{not-outside}
 use Rattle.refusal.specs.Outcome.{value}
 use mir.Facts.{toZ-ofZ}
-use mathlib.Core.Path.{sym, ap, _∙_}
+use mathlib.Core.Path.{ap, _∙_}
 use Rattle.calendar.proofs.civil_from_days.Statement.{statement}
 use Rattle.calendar.proofs.civil_from_days.Tie as tie
-use Rattle.calendar.proofs.civil_from_days.Reads as reads
-use Rattle.calendar.proofs.civil_from_days.Lts as lts
-use Rattle.calendar.proofs.date_of_count.Reads as date-of-count-reads
 
 returns : tie.Need-returns
 unfolding civilAnswer

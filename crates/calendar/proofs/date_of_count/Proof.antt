@@ -7,10 +7,6 @@ use mathlib.Core.Path.{ap, _∙_}
 use borrow.Author.Needs.{needs}
 use Rattle.calendar.proofs.date_of_count.Statement.{statement}
 use Rattle.calendar.proofs.date_of_count.Tie as tie
-use Rattle.calendar.proofs.date_of_count.Reads as reads
-use Rattle.calendar.proofs.date_of_count.Lts as lts
-use Rattle.calendar.proofs.convert.date_after.Reads as date-after-reads
-use Rattle.calendar.proofs.days_from_first.Reads as days-from-first-reads
 
 days-from-first-requires : tie.Need-days-from-first-requires
 days-from-first-requires c κs = search needs

@@ -7,8 +7,6 @@ use native.Mathlib.Omega.{arith}
 use mathlib.Core.Path.{refl}
 use Rattle.calendar.proofs.days_from_first.Statement.{statement}
 use Rattle.calendar.proofs.days_from_first.Tie as tie
-use Rattle.calendar.proofs.days_from_first.Reads as reads
-use Rattle.calendar.proofs.days_from_first.Lts as lts
 
 sub-result : tie.Need-sub-result
 sub-result c = let t = outside-no firstCount lastCount (c .args .days) (c .pre) in from-first firstCount lastCount refl (lit< tt) (c .fits .days) (t .0) (t .1)

@@ -11,10 +11,6 @@ use mathlib.Core.Path.{sym, ap, _∙_}
 use borrow.Author.Needs.{needs}
 use Rattle.calendar.proofs.is_leap.Statement.{statement}
 use Rattle.calendar.proofs.is_leap.Tie as tie
-use Rattle.calendar.proofs.is_leap.Reads as reads
-use Rattle.calendar.proofs.is_leap.Lts as lts
-use Rattle.calendar.proofs.year.leap_day.Reads as leap-day-reads
-use Rattle.calendar.proofs.years_from_base.Reads as years-from-base-reads
 
 returns : tie.Need-returns
 unfolding leapAnswer

@@ -1,30 +1,21 @@
 use Rattle.calendar.proofs.Lengths.{at-key, too-small, too-large, seven-or-eight, key-bits, february}
-use Rattle.calendar.proofs.Months.{months}
 use Rattle.calendar.specs.Answers.{lastDayAnswer}
 use Rattle.calendar.specs.Gregorian.{monthLengths, monthLength}
 use Rattle.calendar.specs.Range.{firstYear, lastYear}
 use Rattle.numbers.proofs.Machine.{read, tested-below, tested-above, tested-inside}
 use Rattle.numbers.proofs.Integers.{not-outside}
-use Rattle.numbers.specs.Range.{outside}
 use Rattle.refusal.specs.Outcome.{value}
 use mir.Facts.{toZ-ofZ, toZ-pos}
-use mir.Val.{SFits, ofZ}
+use mir.Val.{ofZ}
 use mir.Syntax.{w64}
-use lib.Signed.{ltZ}
-use lib.IntN.{ℤ, pos}
 use lib.Dec.{lit<}
 use native.Mathlib.Omega.{arith}
 use mathlib.Core.Logic.{⊎-elim, inl, inr}
-use mathlib.Core.Bool.{true, false}
-use mathlib.Core.Path.{_≡_, sym, ap, _∙_}
-use Prim.Native.Nat.{ℕ, _≤_, _<_, _^_}
+use mathlib.Core.Path.{_≡_, ap, _∙_}
+use Prim.Native.Nat.{ℕ, _<_, _^_}
 use borrow.Author.Needs.{needs}
 use Rattle.calendar.proofs.last_day_of_month.Statement.{statement}
 use Rattle.calendar.proofs.last_day_of_month.Tie as tie
-use Rattle.calendar.proofs.last_day_of_month.Reads as reads
-use Rattle.calendar.proofs.last_day_of_month.Lts as lts
-use Rattle.calendar.proofs.year.leap_day.Reads as leap-day-reads
-use Rattle.calendar.proofs.years_from_base.Reads as years-from-base-reads
 
 returns : tie.Need-returns
 unfolding lastDayAnswer

@@ -1,22 +1,19 @@
-use Rattle.calendar.proofs.Tested.{weekday-from-first}
+use Rattle.calendar.proofs.Weekday.{weekday-from-first}
 use Rattle.calendar.specs.Answers.{weekdayAnswer}
 use Rattle.calendar.specs.Count.{weekday}
 use Rattle.calendar.specs.Range.{firstCount, lastCount}
 use Rattle.numbers.proofs.Machine.{read, tested-below, tested-above, tested-inside}
-use Rattle.numbers.proofs.Integers.{not-outside, add-since, outside-no}
+use Rattle.numbers.proofs.Integers.{not-outside, add-since}
 use Rattle.refusal.specs.Outcome.{value}
 use mir.Facts.{toZ-ofZ, toZ-pos}
 use mir.Syntax.{w64}
-use lib.IntN.{pos, _+ℤ_}
+use lib.IntN.{pos}
 use Prim.Native.Nat.{_+_, _%_}
 use native.Mathlib.Omega.{arith}
 use mathlib.Core.Path.{sym, ap, _∙_}
 use borrow.Author.Needs.{needs}
 use Rattle.calendar.proofs.weekday_from_days.Statement.{statement}
 use Rattle.calendar.proofs.weekday_from_days.Tie as tie
-use Rattle.calendar.proofs.weekday_from_days.Reads as reads
-use Rattle.calendar.proofs.weekday_from_days.Lts as lts
-use Rattle.calendar.proofs.days_from_first.Reads as days-from-first-reads
 
 returns : tie.Need-returns
 unfolding weekdayAnswer

@@ -9,8 +9,6 @@ use native.Mathlib.Omega.{arith}
 use mathlib.Core.Path.{refl, ap, _∙_}
 use Rattle.calendar.proofs.years_from_base.Statement.{statement}
 use Rattle.calendar.proofs.years_from_base.Tie as tie
-use Rattle.calendar.proofs.years_from_base.Reads as reads
-use Rattle.calendar.proofs.years_from_base.Lts as lts
 
 sub-result : tie.Need-sub-result
 sub-result c = from-first baseYear lastYear refl (lit< tt) (c .fits .year) (year-low (c .args .year) (c .pre)) (year-high (c .args .year) (c .pre))

@@ -2,9 +2,6 @@ use Rattle.calendar.proofs.Conversion.{year-adds, month-subtracts, date
 use borrow.Author.Needs.{needs}
 use Rattle.calendar.proofs.convert.date_after.Statement.{statement}
 use Rattle.calendar.proofs.convert.date_after.Tie as tie
-use Rattle.calendar.proofs.convert.date_after.Reads as reads
-use Rattle.calendar.proofs.convert.date_after.Lts as lts
-use Rattle.calendar.proofs.convert.new_year.Reads as new-year-reads
 
 add-n-1 : tie.Need-add-n-1
 add-n-1 c = search needs

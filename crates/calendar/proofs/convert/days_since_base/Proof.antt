@@ -1,14 +1,9 @@
 use Rattle.calendar.proofs.Steps.{in-range}
 use Rattle.calendar.proofs.Conversion.{algorithm-4}
 use native.Mathlib.Omega.{arith}
-use mathlib.Core.Path.{sym}
 use borrow.Author.Needs.{needs}
 use Rattle.calendar.proofs.convert.days_since_base.Statement.{statement}
 use Rattle.calendar.proofs.convert.days_since_base.Tie as tie
-use Rattle.calendar.proofs.convert.days_since_base.Reads as reads
-use Rattle.calendar.proofs.convert.days_since_base.Lts as lts
-use Rattle.calendar.proofs.year.before_march.Reads as before-march-reads
-use Rattle.calendar.proofs.year.days_before.Reads as days-before-reads
 
 before-march-requires : tie.Need-before-march-requires
 before-march-requires c κs = search needs

@@ -4,8 +4,6 @@ use mathlib.Core.Bool.{cond}
 use mathlib.Core.Path.{sym, ap}
 use Rattle.calendar.proofs.convert.new_year.Statement.{statement}
 use Rattle.calendar.proofs.convert.new_year.Tie as tie
-use Rattle.calendar.proofs.convert.new_year.Reads as reads
-use Rattle.calendar.proofs.convert.new_year.Lts as lts
 
 returns : tie.Need-returns
 returns c = (ap (λ t. cond t 0 1) (sym (lt-ltb (c .before .args .k) 306 (c .if1 .taken))), omega arith)

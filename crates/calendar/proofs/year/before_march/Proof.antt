@@ -4,8 +4,6 @@ use mathlib.Core.Bool.{cond}
 use mathlib.Core.Path.{sym, ap}
 use Rattle.calendar.proofs.year.before_march.Statement.{statement}
 use Rattle.calendar.proofs.year.before_march.Tie as tie
-use Rattle.calendar.proofs.year.before_march.Reads as reads
-use Rattle.calendar.proofs.year.before_march.Lts as lts
 
 returns : tie.Need-returns
 returns c = (ap (λ t. cond t 1 0) (sym (lt-ltb (c .before .args .m) 3 (c .if1 .taken))), omega arith)

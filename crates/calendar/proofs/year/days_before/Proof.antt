@@ -3,8 +3,6 @@ use native.Mathlib.Omega.{arith}
 use borrow.Author.Needs.{needs}
 use Rattle.calendar.proofs.year.days_before.Statement.{statement}
 use Rattle.calendar.proofs.year.days_before.Tie as tie
-use Rattle.calendar.proofs.year.days_before.Reads as reads
-use Rattle.calendar.proofs.year.days_before.Lts as lts
 
 sub-at : tie.Need-sub-at
 sub-at c = search needs

@@ -2,14 +2,10 @@ use Rattle.calendar.proofs.Months.{before-early, before-late}
 use Rattle.calendar.specs.Closed.{leapDay}
 use native.Mathlib.Omega.{arith}
 use Prim.Native.Nat.{_+_}
-use mathlib.Core.Path.{sym, ap, ap₂, _∙_}
+use mathlib.Core.Path.{sym, ap₂, _∙_}
 use borrow.Author.Needs.{needs}
 use Rattle.calendar.proofs.year.days_before_month.Statement.{statement}
 use Rattle.calendar.proofs.year.days_before_month.Tie as tie
-use Rattle.calendar.proofs.year.days_before_month.Reads as reads
-use Rattle.calendar.proofs.year.days_before_month.Lts as lts
-use Rattle.calendar.proofs.year.days_before.Reads as days-before-reads
-use Rattle.calendar.proofs.year.leap_day.Reads as leap-day-reads
 
 days-before-requires : tie.Need-days-before-requires
 days-before-requires c κs = search needs

@@ -4,9 +4,6 @@ use mathlib.Core.Path.{sym}
 use borrow.Author.Needs.{needs}
 use Rattle.calendar.proofs.year.leap_day.Statement.{statement}
 use Rattle.calendar.proofs.year.leap_day.Tie as tie
-use Rattle.calendar.proofs.year.leap_day.Reads as reads
-use Rattle.calendar.proofs.year.leap_day.Lts as lts
-use Rattle.calendar.proofs.year.year_or_century.Reads as year-or-century-reads
 
 year-or-century-requires : tie.Need-year-or-century-requires
 year-or-century-requires c κs = search needs

@@ -1,0 +1,210 @@
+-- The theorems of the calendar, over the definition by steps.
+use Prim.Native.Nat.{ℕ, _+_, _%_, _≤_, _<_}
+use mathlib.Core.Path.{_≡_, refl, sym, ap, ap₂, _∙_, subst}
+use mathlib.Core.Logic.{_↔_}
+use mathlib.Core.Bool.{Bool, true, false, cond, not, _&&_}
+use native.Mathlib.Numerals.{add-one}
+use native.Mathlib.Omega.{arith}
+use lib.Dec.{ltb}
+use lib.IntN.{ℤ, pos, natAbs, _+ℤ_, +ℤ-assoc}
+use lib.Signed.{ltZ}
+use borrow.Author.Tests.{ltb-true, lt-ltb, le-ltb, eqb-true, eq-eqb}
+use Rattle.refusal.specs.Outcome.{value, refused}
+use Rattle.numbers.specs.Floor.{floorRemainder}
+use Rattle.numbers.specs.Range.{outside, since}
+use Rattle.numbers.proofs.Integers.{no-both, outside-no, not-outside, add-since, since-add, since-le, lt-add, add-injective}
+use Rattle.calendar.specs.declared.Date.{Date}
+use Rattle.calendar.specs.Range.{firstYear, lastYear, firstCount, lastCount}
+use Rattle.calendar.specs.Gregorian.{divides, leapYear, monthLength, date, nextDay, dateAfter, ValidDate, Earlier, by-year, by-month, by-day}
+use Rattle.calendar.specs.Count.{dateOfCount, countOfDate, weekday}
+use Rattle.calendar.specs.Answers.{daysAnswer, civilAnswer, addDaysAnswer}
+use Rattle.calendar.specs.Closed.{fromYear, toYear, baseYear, cycle, lastDay, leapDay, leapℕ, leaps, start, monthDays, before, Valid, count, public}
+use Rattle.calendar.proofs.Months.{length-public}
+use Rattle.calendar.proofs.Order.{Before, in-year, in-month, in-day, before-less, trichotomy}
+use Rattle.calendar.proofs.Steps.{at, found, count-after, range-years}
+use Rattle.calendar.proofs.Tests.{valid-answer, accepted-valid, accepted-is}
+use Rattle.calendar.proofs.Weekday.{weekday-add}
+use Rattle.calendar.proofs.Dates.{counted, count-inside, added}
+
+-- counts and valid dates correspond one to one
+
+-- a count of the range, counted from the first
+count-from : (z : ℤ) → outside firstCount lastCount z ≡ false → (firstCount +ℤ pos (since firstCount z) ≡ z) × (since firstCount z ≤ lastDay)
+count-from z h =
+    let t = outside-no firstCount lastCount z h in
+    (add-since firstCount z (t .0), since-le firstCount lastCount refl z (t .0) (t .1))
+
+pub count-of-date-of-count : (z : ℤ) → outside firstCount lastCount z ≡ false → countOfDate (dateOfCount z) ≡ z
+unfolding dateOfCount
+count-of-date-of-count z h = let f = count-from z h in count-after (since firstCount z) (f .1) ∙ f .0
+
+pub date-of-count-of-date : (d : Date) → ValidDate d → dateOfCount (countOfDate d) ≡ d
+unfolding dateOfCount
+date-of-count-of-date d v =
+    let k = counted d v in
+    ap (λ z. dateAfter (since firstCount z)) (k .count-is) ∙ ap dateAfter (since-add firstCount (k .n)) ∙ sym (k .date-is)
+
+-- a date of natural numbers in the years of the range is valid
+natural-valid : (y m d : ℕ) → Valid y m d → fromYear ≤ y → y ≤ toYear → ValidDate (public y m d)
+natural-valid y m d v from to =
+    record {
+      year-inside =
+          not-outside firstYear lastYear (baseYear +ℤ pos y) (lt-add baseYear y 400 ∙ le-ltb y 400 from)
+          (lt-add baseYear 10399 y ∙ le-ltb 10399 y to);
+      month-inside =
+          not-outside (pos 1) (pos 12) (pos m) (le-ltb m 1 (v .month-low)) (le-ltb 12 m (v .month-high));
+      day-inside =
+          not-outside (pos 1) (monthLength (baseYear +ℤ pos y) (pos m)) (pos d) (le-ltb d 1 (v .day-low))
+          (ap (λ l. ltZ l (pos d)) (length-public y m (v .month-low) (v .month-high)) ∙ le-ltb (monthDays (leapDay y) m) d (v .day-high));
+    }
+
+pub date-of-count-is-valid : (z : ℤ) → outside firstCount lastCount z ≡ false → ValidDate (dateOfCount z)
+unfolding dateOfCount
+date-of-count-is-valid z h =
+    let a = at (since firstCount z) in
+    let r = range-years (since firstCount z) (count-from z h .1) in
+    subst ValidDate (sym (a .is)) (natural-valid (a .year) (a .month) (a .day) (a .valid) (r .0) (r .1))
+
+pub count-of-valid-date-is-in-range : (d : Date) → ValidDate d → outside firstCount lastCount (countOfDate d) ≡ false
+count-of-valid-date-is-in-range = count-inside
+
+-- the same of the two calls: each undoes the other
+civil-value : (z : ℤ) (d : Date) → civilAnswer z ≡ value d → (outside firstCount lastCount z ≡ false) × (dateOfCount z ≡ d)
+unfolding civilAnswer
+civil-value z d = go (outside firstCount lastCount z) refl
+  where
+    go : (t : Bool) → outside firstCount lastCount z ≡ t → cond t (refused 4) (value (dateOfCount z)) ≡ value d → (t ≡ false) × (dateOfCount z ≡ d)
+    go true e h = absurd (let z : _≡_ {A = ℕ} 0 1 = cc in omega arith)
+    go false e h = (refl, cc)
+
+pub days-of-civil : (z : ℤ) (d : Date) → civilAnswer z ≡ value d → daysAnswer (d .year) (d .month) (d .day) ≡ value z
+unfolding daysAnswer
+days-of-civil z d h =
+    let c = civil-value z d h in
+    valid-answer d (λ d. value (countOfDate d)) (subst ValidDate (c .1) (date-of-count-is-valid z (c .0)))
+    ∙ ap value (ap countOfDate (sym (c .1)) ∙ count-of-date-of-count z (c .0))
+
+pub civil-of-days : (year month day z : ℤ) → daysAnswer year month day ≡ value z → civilAnswer z ≡ value (date year month day)
+unfolding civilAnswer daysAnswer
+civil-of-days year month day z h =
+    let d = date year month day in
+    let v = accepted-valid year month day countOfDate z (sym h) in
+    let e = accepted-is year month day countOfDate z (sym h) in
+    ap (λ t. cond t (refused 4) (value (dateOfCount z))) (ap (outside firstCount lastCount) e ∙ count-inside d v)
+    ∙ ap value (ap dateOfCount e ∙ date-of-count-of-date d v)
+
+-- the next count is the next day
+pub next-count-is-next-day : (z : ℤ) → outside firstCount lastCount z ≡ false → dateOfCount (z +ℤ pos 1) ≡ nextDay (dateOfCount z)
+unfolding dateOfCount dateAfter
+next-count-is-next-day z h =
+    let f = count-from z h in
+    ap dateAfter
+    (ap (λ z. since firstCount (z +ℤ pos 1)) (sym (f .0)) ∙ ap (since firstCount) (+ℤ-assoc firstCount (pos (since firstCount z)) (pos 1))
+    ∙ since-add firstCount (since firstCount z + 1) ∙ add-one (since firstCount z))
+
+-- an earlier date has a smaller count, and the other way round
+up : (y m d y′ m′ d′ : ℕ) → Before y m d y′ m′ d′ → Earlier (public y m d) (public y′ m′ d′)
+up y m d y′ m′ d′ (in-year h) = by-year (lt-add baseYear y y′ ∙ lt-ltb y y′ h)
+up y m d y′ m′ d′ (in-month p h) = by-month (ap (λ y. baseYear +ℤ pos y) p) (lt-ltb m m′ h)
+up y m d y′ m′ d′ (in-day p q h) = by-day (ap (λ y. baseYear +ℤ pos y) p) (ap pos q) (lt-ltb d d′ h)
+
+down : (y m d y′ m′ d′ : ℕ) → Earlier (public y m d) (public y′ m′ d′) → Before y m d y′ m′ d′
+down y m d y′ m′ d′ (by-year h) = in-year (ltb-true y y′ (sym (lt-add baseYear y y′) ∙ h))
+down y m d y′ m′ d′ (by-month p h) = in-month (add-injective baseYear y y′ p) (ltb-true m m′ h)
+down y m d y′ m′ d′ (by-day p q h) = in-day (add-injective baseYear y y′ p) (ap natAbs q) (ltb-true d d′ h)
+
+module _ (a b : ℕ) where
+  earlier-less : Earlier (dateAfter a) (dateAfter b) → a < b
+  earlier-less e =
+      let x = at a in
+      let y = at b in
+      let l =
+      before-less (x .year) (x .month) (x .day) (y .year) (y .month) (y .day) (x .valid) (y .valid)
+      (down (x .year) (x .month) (x .day) (y .year) (y .month) (y .day) (subst (λ d. Earlier d (public (y .year) (y .month) (y .day))) (x .is) (subst (Earlier (dateAfter a)) (y .is) e))) in
+      omega (arith, x .number, y .number)
+
+  less-earlier : a < b → Earlier (dateAfter a) (dateAfter b)
+  less-earlier h =
+      let x = at a in
+      let y = at b in
+      let w : Before (x .year) (x .month) (x .day) (y .year) (y .month) (y .day) =
+      trichotomy (x .year) (x .month) (x .day) (y .year) (y .month) (y .day) (λ w. w)
+      (λ p q r. absurd (let e : count (x .year) (x .month) (x .day) ≡ count (y .year) (y .month) (y .day) = λ i. count (p i) (q i) (r i) in omega (arith, x .number, y .number)))
+      (λ w. absurd (let l = before-less (y .year) (y .month) (y .day) (x .year) (x .month) (x .day) (y .valid) (x .valid) w in omega (arith, x .number, y .number))) in
+      subst (λ d. Earlier d (dateAfter b)) (sym (x .is)) (subst (Earlier (public (x .year) (x .month) (x .day))) (sym (y .is)) (up (x .year) (x .month) (x .day) (y .year) (y .month) (y .day) w))
+
+module _ (a b : ℤ) (p : outside firstCount lastCount a ≡ false) (q : outside firstCount lastCount b ≡ false) where
+  from-firsts : ltZ a b ≡ ltb (since firstCount a) (since firstCount b)
+  from-firsts = ap₂ ltZ (sym (count-from a p .0)) (sym (count-from b q .0)) ∙ lt-add firstCount (since firstCount a) (since firstCount b)
+
+  pub earlier-has-smaller-count : Earlier (dateOfCount a) (dateOfCount b) → ltZ a b ≡ true
+  unfolding dateOfCount
+  earlier-has-smaller-count e =
+      from-firsts ∙ lt-ltb (since firstCount a) (since firstCount b) (earlier-less (since firstCount a) (since firstCount b) e)
+
+  pub smaller-count-is-earlier : ltZ a b ≡ true → Earlier (dateOfCount a) (dateOfCount b)
+  unfolding dateOfCount
+  smaller-count-is-earlier h =
+      less-earlier (since firstCount a) (since firstCount b) (ltb-true (since firstCount a) (since firstCount b) (sym from-firsts ∙ h))
+
+-- the ends of the range
+pub first-count-is-first-date : civilAnswer firstCount ≡ value (date (pos 0) (pos 1) (pos 1))
+unfolding civilAnswer dateOfCount dateAfter
+first-count-is-first-date = refl
+
+-- the date of a count, by the closed forms: a valid date with the right number is the date
+pub date-at : (n y m d : ℕ) → Valid y m d → count y m d ≡ cycle + n → dateAfter n ≡ public y m d
+date-at = found
+
+pub last-count-is-last-date : civilAnswer lastCount ≡ value (date (pos 9999) (pos 12) (pos 31))
+unfolding civilAnswer dateOfCount count start leaps leapDay leapℕ before monthDays
+last-count-is-last-date =
+    ap value
+    (found 3652424 10399 12 31
+    (record { month-low = omega arith; month-high = omega arith; day-low = omega arith; day-high = omega arith })
+    refl)
+
+-- the weekday
+pub day-zero-is-thursday : weekday (pos 0) ≡ pos 4
+unfolding weekday
+day-zero-is-thursday = refl
+
+pub weekday-moves-by-one : (z : ℤ) → weekday (z +ℤ pos 1) ≡ pos ((natAbs (weekday z) + 1) % 7)
+weekday-moves-by-one z = weekday-add z (pos 1)
+
+-- the leap flag is the leap rule
+leap-tests : (a b c : Bool) → ((a && not (b && not c)) ≡ true) ↔ ((a ≡ true) × (b ≡ true → c ≡ true))
+leap-tests false b c = (λ h. no-both false h refl, λ h. h .0)
+leap-tests true false c = (λ h. (refl, λ k. no-both false k refl), λ h. refl)
+leap-tests true true c = (λ h. (refl, λ k. not-not c h), λ h. twice c (h .1 refl))
+  where
+    not-not : (c : Bool) → not (not c) ≡ true → c ≡ true
+    not-not true h = refl
+    not-not false h = h
+
+    twice : (c : Bool) → c ≡ true → not (not c) ≡ true
+    twice true h = refl
+    twice false h = h
+
+pub leap-rule : (y : ℤ) → (leapYear y ≡ true) ↔ ((floorRemainder y 4 ≡ 0) × (floorRemainder y 100 ≡ 0 → floorRemainder y 400 ≡ 0))
+unfolding leapYear
+leap-rule y =
+    let t = leap-tests (divides 4 y) (divides 100 y) (divides 400 y) in (
+      λ h. (
+        eqb-true (floorRemainder y 4) 0 (t .0 h .0),
+        λ k. eqb-true (floorRemainder y 400) 0 (t .0 h .1 (eq-eqb (floorRemainder y 100) 0 k)),
+      ),
+      λ h. t .1 (eq-eqb (floorRemainder y 4) 0 (h .0), λ k. eq-eqb (floorRemainder y 400) 0 (h .1 (eqb-true (floorRemainder y 100) 0 k))),
+    )
+
+-- a shifted date is the date of the sum of the count and the days, taken in whole numbers, or 4 exactly if that lies outside the range
+pub add-days-is-date-of-sum : (year month day z p : ℤ) → daysAnswer year month day ≡ value z → addDaysAnswer year month day p ≡ civilAnswer (z +ℤ p)
+add-days-is-date-of-sum year month day z p h = added year month day z (sym h) p
+
+pub civil-refuses-exactly-outside : (z : ℤ) → (civilAnswer z ≡ refused 4) ↔ (outside firstCount lastCount z ≡ true)
+unfolding civilAnswer
+civil-refuses-exactly-outside z = go (outside firstCount lastCount z)
+  where
+    go : (t : Bool) → (cond t (refused 4) (value (dateOfCount z)) ≡ refused 4) ↔ (t ≡ true)
+    go true = (λ h. refl, λ h. refl)
+    go false = (λ h. absurd (let z : _≡_ {A = ℕ} 0 1 = cc in omega arith), λ h. no-both false h refl)

@@ -1,0 +1,108 @@
+-- What the tests of a year, a month and a day decide.
+use Prim.Native.Nat.{ℕ}
+use mathlib.Core.Path.{_≡_, refl, ap, _∙_}
+use mathlib.Core.Bool.{Bool, true, false, cond}
+use native.Mathlib.Omega.{arith}
+use lib.IntN.{ℤ, pos}
+use mir.Syntax.{w64}
+use mir.Val.{SFits}
+use mir.Facts.{toZ-ofZ}
+use Rattle.refusal.specs.Outcome.{Outcome, value, refused}
+use Rattle.numbers.specs.Range.{outside}
+use Rattle.numbers.proofs.Machine.{read}
+use Rattle.calendar.specs.declared.Date.{Date}
+use Rattle.calendar.specs.Range.{firstYear, lastYear}
+use Rattle.calendar.specs.Gregorian.{monthLength, date, ValidDate}
+use Rattle.calendar.specs.Answers.{lastDayAnswer, ofDate, daysAnswer}
+
+-- year and month: both tests pass where there is a value
+two-tests : (a b : Bool) (x : ℤ) {n : ℤ} → value n ≡ cond a (refused 1) (cond b (refused 2) (value x)) → (a ≡ false) × ((b ≡ false) × (n ≡ x))
+two-tests true b x e = absurd (let z : _≡_ {A = ℕ} 0 1 = cc in omega arith)
+two-tests false true x e = absurd (let z : _≡_ {A = ℕ} 0 1 = cc in omega arith)
+two-tests false false x e = (refl, (refl, cc))
+
+pub month-accepted :
+    (year month n : ℤ) → value n ≡ lastDayAnswer year month →
+    (outside firstYear lastYear year ≡ false) × ((outside (pos 1) (pos 12) month ≡ false) × (n ≡ monthLength year month))
+unfolding lastDayAnswer
+month-accepted year month n = two-tests (outside firstYear lastYear year) (outside (pos 1) (pos 12) month) (monthLength year month)
+
+two-refusals :
+    {A : Type 0} (a b : Bool) (x : ℤ) (y : Outcome A) {k : ℕ} → refused k ≡ cond a (refused 1) (cond b (refused 2) (value x)) →
+    refused k ≡ cond a (refused 1) (cond b (refused 2) y)
+two-refusals true b x y e = cc
+two-refusals false true x y e = cc
+two-refusals false false x y e = absurd (let z : _≡_ {A = ℕ} 0 1 = cc in omega arith)
+
+pub month-refused :
+    {A : Type 0} (year month day : ℤ) (f : Date → Outcome A) (k : ℕ) → refused k ≡ lastDayAnswer year month →
+    refused k ≡ ofDate year month day f
+unfolding lastDayAnswer ofDate
+month-refused year month day f k = two-refusals (outside firstYear lastYear year) (outside (pos 1) (pos 12) month) _ _
+
+-- the day, after year and month
+pub day-decides :
+    {A : Type 0} (year month day : ℤ) (f : Date → Outcome A) → outside firstYear lastYear year ≡ false →
+    outside (pos 1) (pos 12) month ≡ false →
+    ofDate year month day f ≡ cond (outside (pos 1) (monthLength year month) day) (refused 3) (f (date year month day))
+unfolding ofDate
+day-decides year month day f p q = rw (p, q)
+
+-- a valid date is answered as `f` says
+pub valid-answer : {A : Type 0} (d : Date) (f : Date → Outcome A) → ValidDate d → ofDate (d .year) (d .month) (d .day) f ≡ f d
+valid-answer d f v =
+    day-decides (d .year) (d .month) (d .day) f (v .year-inside) (v .month-inside)
+    ∙ ap (λ t. cond t (refused 3) (f d)) (v .day-inside)
+
+-- the three tests pass where there is a value
+three-tests :
+    {B : Type 0} (a b c : Bool) (x : B) {z : B} → value z ≡ cond a (refused 1) (cond b (refused 2) (cond c (refused 3) (value x))) →
+    (a ≡ false) × ((b ≡ false) × ((c ≡ false) × (z ≡ x)))
+three-tests true b c x h = absurd (let z : _≡_ {A = ℕ} 0 1 = cc in omega arith)
+three-tests false true c x h = absurd (let z : _≡_ {A = ℕ} 0 1 = cc in omega arith)
+three-tests false false true x h = absurd (let z : _≡_ {A = ℕ} 0 1 = cc in omega arith)
+three-tests false false false x h = (refl, (refl, (refl, cc)))
+
+module _ {B : Type 0} (year month day : ℤ) (g : Date → B) (z : B) (h : value z ≡ ofDate year month day (λ d. value (g d))) where
+  passed :
+      (outside firstYear lastYear year ≡ false) × ((outside (pos 1) (pos 12) month ≡ false)
+      × ((outside (pos 1) (monthLength year month) day ≡ false) × (z ≡ g (date year month day))))
+  unfolding ofDate
+  passed =
+      three-tests (outside firstYear lastYear year) (outside (pos 1) (pos 12) month) (outside (pos 1) (monthLength year month) day)
+      (g (date year month day)) h
+
+  pub accepted-valid : ValidDate (date year month day)
+  accepted-valid = record { year-inside = passed .0; month-inside = passed .1 .0; day-inside = passed .1 .1 .0 }
+
+  pub accepted-is : z ≡ g (date year month day)
+  accepted-is = passed .1 .1 .1
+
+  pub accepted-answer : {A : Type 0} (f : Date → Outcome A) → ofDate year month day f ≡ f (date year month day)
+  accepted-answer f = valid-answer (date year month day) f accepted-valid
+
+three-refusals :
+    {A B : Type 0} (a b c : Bool) (x : B) (y : Outcome A) {k : ℕ} →
+    refused k ≡ cond a (refused 1) (cond b (refused 2) (cond c (refused 3) (value x))) →
+    refused k ≡ cond a (refused 1) (cond b (refused 2) (cond c (refused 3) y))
+three-refusals true b c x y h = cc
+three-refusals false true c x y h = cc
+three-refusals false false true x y h = cc
+three-refusals false false false x y h = absurd (let z : _≡_ {A = ℕ} 0 1 = cc in omega arith)
+
+-- a refused date is refused alike by every call
+pub date-refused :
+    {A B : Type 0} (year month day : ℤ) (g : Date → B) (k : ℕ) (f : Date → Outcome A) →
+    refused k ≡ ofDate year month day (λ d. value (g d)) → refused k ≡ ofDate year month day f
+unfolding ofDate
+date-refused year month day g k f =
+    three-refusals (outside firstYear lastYear year) (outside (pos 1) (pos 12) month) (outside (pos 1) (monthLength year month) day)
+    (g (date year month day)) (f (date year month day))
+
+-- three locals hold the numbers that they were given
+module _ {year month day : ℤ} (p : SFits w64 year) (q : SFits w64 month) (r : SFits w64 day) where
+  pub of-read : {A : Type 0} (f : Date → Outcome A) → ofDate (read year) (read month) (read day) f ≡ ofDate year month day f
+  of-read f = λ i. ofDate (toZ-ofZ p i) (toZ-ofZ q i) (toZ-ofZ r i) f
+
+  pub days-read : daysAnswer (read year) (read month) (read day) ≡ daysAnswer year month day
+  days-read = λ i. daysAnswer (toZ-ofZ p i) (toZ-ofZ q i) (toZ-ofZ r i)

@@ -1,0 +1,33 @@
+-- Weekdays of sums.
+use Prim.Native.Nat.{ℕ, suc, _+_, _-_, _%_}
+use mathlib.Core.Path.{_≡_, ap, sym, _∙_}
+use native.Mathlib.Omega.{arith}
+use lib.IntN.{ℤ, pos, negsuc, natAbs, _+ℤ_, +ℤ-assoc, +ℤ-comm}
+use Rattle.numbers.specs.Floor.{floorRemainder}
+use Rattle.numbers.proofs.Integers.{on-sub}
+use Rattle.calendar.specs.Range.{firstCount}
+use Rattle.calendar.specs.Count.{weekday}
+
+-- the remainder of a sum
+remainder-add : (z p : ℤ) → floorRemainder (z +ℤ p) 7 ≡ (floorRemainder z 7 + floorRemainder p 7) % 7
+remainder-add (pos a) (pos b) = omega arith
+remainder-add (pos a) (negsuc b) =
+    on-sub (λ z. floorRemainder z 7 ≡ (a % 7 + (6 - b % 7)) % 7) a (suc b) (λ l. omega arith) (λ l. omega arith)
+remainder-add (negsuc a) (pos b) =
+    on-sub (λ z. floorRemainder z 7 ≡ (6 - a % 7 + b % 7) % 7) b (suc a) (λ l. omega arith) (λ l. omega arith)
+remainder-add (negsuc a) (negsuc b) = omega arith
+
+pub weekday-add : (z p : ℤ) → weekday (z +ℤ p) ≡ pos ((natAbs (weekday z) + floorRemainder p 7) % 7)
+unfolding weekday
+weekday-add z p =
+    ap pos
+    (ap (λ z. floorRemainder z 7) (+ℤ-assoc z p (pos 4) ∙ ap (λ x. z +ℤ x) (+ℤ-comm p (pos 4)) ∙ sym (+ℤ-assoc z (pos 4) p))
+    ∙ remainder-add (z +ℤ pos 4) p)
+
+-- the first day is a Saturday
+from-saturday : (n : ℕ) → (natAbs (weekday firstCount) + n % 7) % 7 ≡ (n + 6) % 7
+unfolding weekday
+from-saturday n = omega arith
+
+pub weekday-from-first : (n : ℕ) → weekday (firstCount +ℤ pos n) ≡ pos ((n + 6) % 7)
+weekday-from-first n = weekday-add firstCount (pos n) ∙ ap pos (from-saturday n)
