@@ -70,10 +70,7 @@ pub fn days_from_civil(year: i64, month: i64, day: i64) -> NumberAnswer
 pub fn civil_from_days(days: i64) -> DateAnswer
     ensures { λ r. ⌜ dateOutcome r ≡ civilAnswer days ⌝ }
 {
-    if days < FIRST_COUNT {
-        return DateAnswer::Refused(Refusal::OutOfRange);
-    }
-    if days > LAST_COUNT {
+    if count_outside(days) {
         return DateAnswer::Refused(Refusal::OutOfRange);
     }
     DateAnswer::Value(date_of_count(days))
@@ -83,10 +80,7 @@ pub fn civil_from_days(days: i64) -> DateAnswer
 pub fn weekday_from_days(days: i64) -> NumberAnswer
     ensures { λ r. ⌜ numberOutcome r ≡ weekdayAnswer days ⌝ }
 {
-    if days < FIRST_COUNT {
-        return NumberAnswer::Refused(Refusal::OutOfRange);
-    }
-    if days > LAST_COUNT {
+    if count_outside(days) {
         return NumberAnswer::Refused(Refusal::OutOfRange);
     }
     NumberAnswer::Value(((days_from_first(days) + FIRST_WEEKDAY) % 7) as i64)
@@ -96,10 +90,7 @@ pub fn weekday_from_days(days: i64) -> NumberAnswer
 pub fn is_leap(year: i64) -> FlagAnswer
     ensures { λ r. ⌜ flagOutcome r ≡ leapAnswer year ⌝ }
 {
-    if year < FIRST_YEAR {
-        return FlagAnswer::Refused(Refusal::YearOutOfRange);
-    }
-    if year > LAST_YEAR {
+    if year_outside(year) {
         return FlagAnswer::Refused(Refusal::YearOutOfRange);
     }
     FlagAnswer::Value(year::leap_day(years_from_base(year)) == 1)
@@ -109,10 +100,7 @@ pub fn is_leap(year: i64) -> FlagAnswer
 pub fn last_day_of_month(year: i64, month: i64) -> NumberAnswer
     ensures { λ r. ⌜ numberOutcome r ≡ lastDayAnswer year month ⌝ }
 {
-    if year < FIRST_YEAR {
-        return NumberAnswer::Refused(Refusal::YearOutOfRange);
-    }
-    if year > LAST_YEAR {
+    if year_outside(year) {
         return NumberAnswer::Refused(Refusal::YearOutOfRange);
     }
     match month {
@@ -172,6 +160,26 @@ fn check_date(year: i64, month: i64, day: i64) -> Checked
         }
         NumberAnswer::Refused(r) => Checked::Refused(r),
     }
+}
+
+// Whether a count lies outside the range.
+fn count_outside(days: i64) -> bool
+    ensures { λ r. ⌜ r ≡ outside firstCount lastCount days ⌝ }
+{
+    if days < FIRST_COUNT {
+        return true;
+    }
+    days > LAST_COUNT
+}
+
+// Whether a year lies outside the range.
+fn year_outside(year: i64) -> bool
+    ensures { λ r. ⌜ r ≡ outside firstYear lastYear year ⌝ }
+{
+    if year < FIRST_YEAR {
+        return true;
+    }
+    year > LAST_YEAR
 }
 
 // The date of a count in the range.

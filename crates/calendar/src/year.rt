@@ -34,7 +34,7 @@ pub fn days_before(m: u32) -> u32
 pub fn before_march(m: u32) -> u32
     ensures { λ r. ⌜ (r ≡ beforeMarch m) × (r ≤ 1) ⌝ }
 {
-    if m < 3 { 1 } else { 0 }
+    if m <= 2 { 1 } else { 0 }
 }
 
 // The days before month m of the year y.

@@ -1,17 +1,18 @@
 -- A tested i64 as a natural number, and a natural number as an i64.
 use Prim.Native.Nat.{ℕ, zero, suc, _+_, _≤_, _<_, _^_}
-use mathlib.Core.Path.{_≡_, sym, ap, _∙_, subst}
-use mathlib.Core.Bool.{true, false}
+use mathlib.Core.Path.{_≡_, refl, sym, ap, _∙_, subst}
+use mathlib.Core.Bool.{Bool, true, false, _||_}
 use native.Mathlib.Nat.{lt-of-le-of-lt}
 use native.Mathlib.Omega.{arith}
 use lib.IntN.{ℤ, pos, negsuc, natAbs, negℤ, _+ℤ_, _-ℤ_, +ℤ-comm}
 use lib.Signed.{ltZ, mag, nonNeg}
 use lib.Dec.{T}
+use borrow.Author.Tests.{ltb-true}
 use mir.Syntax.{Width, w64}
 use mir.Val.{SFits, Fits, bits, toZ, ofZ}
 use mir.Facts.{toZ-ofZ, toZ-pos}
 use Rattle.numbers.specs.Range.{outside, since}
-use Rattle.numbers.proofs.Integers.{on-sub, since-is, since-le, not-outside, below-outside, above-outside}
+use Rattle.numbers.proofs.Integers.{no-both, on-sub, sub-pos, since-is, since-le, not-outside, below-outside, above-outside}
 
 -- a signed local holds the bits of z, and each reading goes through them
 abbrev pub read : ℤ → ℤ
@@ -24,18 +25,30 @@ pos-fits h = record { sfits = h }
 pub cast-pos : (w : Width) {z : ℤ} (n : ℕ) → n < 2 ^ bits w → z ≡ pos n → T (nonNeg z) × Fits w (natAbs z)
 cast-pos w n h e = subst (λ z. T (nonNeg z) × Fits w (natAbs z)) (sym e) (tt, record { fits = h })
 
--- what two tests of a local say of its number
+-- what the two tests of a local say of its number
 module _ (first last : ℤ) {z : ℤ} (f : SFits w64 z) where
+  lower : ltZ (read z) first ≡ ltZ z first
+  lower = ap (λ (y : ℤ). ltZ y first) (toZ-ofZ f)
+
+  upper : ltZ last (read z) ≡ ltZ last z
+  upper = ap (ltZ last) (toZ-ofZ f)
+
   pub tested-below : ltZ (read z) first ≡ true → outside first last z ≡ true
-  tested-below lo = below-outside first last z (sym (ap (λ (y : ℤ). ltZ y first) (toZ-ofZ f)) ∙ lo)
+  tested-below lo = below-outside first last z (sym lower ∙ lo)
+
+  -- not below the first: the second test decides
+  pub tested-last : ltZ (read z) first ≡ false → ltZ last (read z) ≡ outside first last z
+  tested-last lo = upper ∙ ap (λ t. t || ltZ last z) (sym (sym lower ∙ lo))
 
   pub tested-above : ltZ (read z) first ≡ false → ltZ last (read z) ≡ true → outside first last z ≡ true
-  tested-above lo hi =
-      above-outside first last z (sym (ap (λ (y : ℤ). ltZ y first) (toZ-ofZ f)) ∙ lo) (sym (ap (ltZ last) (toZ-ofZ f)) ∙ hi)
+  tested-above lo hi = sym (tested-last lo) ∙ hi
 
   pub tested-inside : ltZ (read z) first ≡ false → ltZ last (read z) ≡ false → outside first last z ≡ false
-  tested-inside lo hi =
-      not-outside first last z (sym (ap (λ (y : ℤ). ltZ y first) (toZ-ofZ f)) ∙ lo) (sym (ap (ltZ last) (toZ-ofZ f)) ∙ hi)
+  tested-inside lo hi = sym (tested-last lo) ∙ hi
+
+  -- the same, of a test that was answered for a local
+  pub answered : {r t : Bool} → r ≡ outside first last (read z) → r ≡ t → outside first last z ≡ t
+  answered e h = ap (outside first last) (sym (toZ-ofZ f)) ∙ sym e ∙ h
 
 -- z in first..last: what `z - first` and its cast to an unsigned number ask, and what they are
 module _ (first last : ℤ) (some : ltZ last first ≡ false) (small : since first last < 2 ^ 63) {z : ℤ} (f : SFits w64 z)
@@ -87,3 +100,29 @@ sub-fits a b h k = let n = mag-negate b in add-fits a (negℤ b) (omega arith) (
 
 pub mag-since : (first : ℤ) (n : ℕ) → mag (first +ℤ pos n) ≤ n + mag first + 1
 mag-since first n = subst (λ (z : ℤ). mag z ≤ n + mag first + 1) (+ℤ-comm (pos n) first) (mag-add first n)
+
+-- a number below zero, as -1 and a natural number less
+module _ {z : ℤ} (f : SFits w64 z) (h : ltZ (read z) (pos 0) ≡ true) where
+  complement : negsuc 0 -ℤ read z ≡ pos (mag z)
+  complement = ap (λ (y : ℤ). negsuc 0 -ℤ y) (toZ-ofZ f) ∙ go z (sym (ap (λ (y : ℤ). ltZ y (pos 0)) (toZ-ofZ f)) ∙ h)
+    where
+      go : (z : ℤ) → ltZ z (pos 0) ≡ true → negsuc 0 -ℤ z ≡ pos (mag z)
+      go (pos a) h = absurd (omega (arith, ltb-true a 0 h))
+      go (negsuc a) h = sub-pos (suc a) 1 (omega arith) ∙ ap pos (omega arith)
+
+  pub complement-fits : SFits w64 (negsuc 0 -ℤ read z)
+  complement-fits = subst (SFits w64) (sym complement) (record { sfits = f .sfits })
+
+  pub complement-cast : T (nonNeg (read (negsuc 0 -ℤ read z))) × Fits w64 (natAbs (read (negsuc 0 -ℤ read z)))
+  complement-cast = cast-pos w64 (mag z) (omega (arith, f .sfits)) (toZ-ofZ complement-fits ∙ complement)
+
+  pub complement-small : natAbs (read (negsuc 0 -ℤ read z)) < 2 ^ 63
+  complement-small = subst (λ (y : ℤ). natAbs y < 2 ^ 63) (sym (toZ-ofZ complement-fits ∙ complement)) (f .sfits)
+
+-- a number that is not below zero, cast to u64
+pub natural-cast : {z : ℤ} → SFits w64 z → ltZ (read z) (pos 0) ≡ false → T (nonNeg (read z)) × Fits w64 (natAbs (read z))
+natural-cast {z} f h = subst (λ (y : ℤ). T (nonNeg y) × Fits w64 (natAbs y)) (sym (toZ-ofZ f)) (go z (f .sfits) (sym (ap (λ (y : ℤ). ltZ y (pos 0)) (toZ-ofZ f)) ∙ h))
+  where
+    go : (z : ℤ) → mag z < 2 ^ 63 → ltZ z (pos 0) ≡ false → T (nonNeg z) × Fits w64 (natAbs z)
+    go (pos a) l h = (tt, record { fits = omega arith })
+    go (negsuc a) l h = no-both true refl h

@@ -2,8 +2,7 @@ use Rattle.calendar.proofs.Leap.{leap-flag, leap-public}
 use Rattle.calendar.specs.Answers.{leapAnswer}
 use Rattle.calendar.specs.Gregorian.{leapYear}
 use Rattle.calendar.specs.Range.{firstYear, lastYear}
-use Rattle.numbers.proofs.Machine.{read, tested-below, tested-above, tested-inside}
-use Rattle.numbers.proofs.Integers.{not-outside}
+use Rattle.numbers.proofs.Machine.{answered}
 use Rattle.refusal.specs.Outcome.{value}
 use mir.Facts.{toZ-ofZ}
 use lib.Dec.{eqb}
@@ -12,27 +11,27 @@ use borrow.Author.Needs.{needs}
 use Rattle.calendar.proofs.is_leap.Statement.{statement}
 use Rattle.calendar.proofs.is_leap.Tie as tie
 
+year-outside-requires : tie.Need-year-outside-requires
+year-outside-requires c κs = search needs
+
 returns : tie.Need-returns
 unfolding leapAnswer
-returns c = rw (tested-below firstYear lastYear (c .before .fits .year) (c .if1 .taken))
-
-returns-2 : tie.Need-returns-2
-unfolding leapAnswer
-returns-2 c = rw (tested-above firstYear lastYear (c .before .before .fits .year) (c .before .if1 .left) (c .if2 .taken))
+returns c = rw (answered firstYear lastYear (c .before .before .fits .year) (c .before .year-outside .ensures) (c .if1 .taken))
 
 years-from-base-requires : tie.Need-years-from-base-requires
-years-from-base-requires c κs = not-outside firstYear lastYear (read (c .before .before .args .year)) (c .before .if1 .left) (c .if2 .left)
+years-from-base-requires c κs = sym (c .before .year-outside .ensures) ∙ c .if1 .left
 
 leap-day-requires : tie.Need-leap-day-requires
 leap-day-requires c κs = search needs
 
-returns-3 : tie.Need-returns-3
+returns-2 : tie.Need-returns-2
 unfolding leapAnswer
-returns-3 c = let s = c .before .before .before .before in
-    rw (tested-inside firstYear lastYear (s .fits .year) (c .before .before .before .if1 .left) (c .before .before .if2 .left))
+returns-2 c = let s = c .before .before .before .before in
+    rw (answered firstYear lastYear (s .fits .year) (c .before .before .before .year-outside .ensures) (c .before .before .if1 .left))
     (ap value (ap (λ l. eqb l 1) (c .leap-day .ensures .0) ∙ leap-flag _ ∙ sym (leap-public _)
     ∙ ap leapYear (c .before .years-from-base .ensures .0 ∙ toZ-ofZ (s .fits .year))))
 
 pub is-leap-spec : {M : Type 1} → statement M
 is-leap-spec =
-    tie.close (tie.spec returns returns-2 years-from-base-requires leap-day-requires returns-3)
+    tie.close
+    (tie.spec year-outside-requires returns years-from-base-requires leap-day-requires returns-2)

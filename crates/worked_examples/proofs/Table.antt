@@ -1,0 +1,49 @@
+-- The starred rows of document 01, "Numbers to try", as one checked table of theorems about the definitions.
+use Prim.Native.Nat.{ℕ, _+_}
+use mathlib.Core.Path.{_≡_, refl, ap, _∙_}
+use mathlib.Core.Bool.{false, cond}
+use native.Mathlib.Omega.{arith}
+use lib.IntN.{ℤ, pos, negsuc, _+ℤ_}
+use Rattle.refusal.specs.Outcome.{value, refused}
+use Rattle.numbers.specs.Range.{outside, since}
+use Rattle.calendar.specs.Range.{firstCount, lastCount}
+use Rattle.calendar.specs.Gregorian.{date}
+use Rattle.calendar.specs.Count.{dateOfCount, weekday}
+use Rattle.calendar.specs.Answers.{civilAnswer, weekdayAnswer}
+use Rattle.calendar.specs.Closed.{cycle, leapDay, leapℕ, leaps, start, monthDays, before, Valid, count, public}
+use Rattle.calendar.proofs.Laws.{date-at}
+
+-- day z is the date with the year baseYear + y
+on : (z : ℤ) (y m d : ℕ) → Valid y m d → count y m d ≡ cycle + since firstCount z → outside firstCount lastCount z ≡ false → civilAnswer z ≡ value (public y m d)
+unfolding civilAnswer dateOfCount
+on z y m d v e h =
+    ap (λ t. cond t (refused 4) (value (dateOfCount z))) h ∙ ap value (date-at (since firstCount z) y m d v e)
+
+pub record Table : Type 0 where
+  pub first : (civilAnswer (negsuc 719527) ≡ value (date (pos 0) (pos 1) (pos 1))) × (weekdayAnswer (negsuc 719527) ≡ value (pos 6))
+  pub leap-day-0 : civilAnswer (negsuc 719468) ≡ value (date (pos 0) (pos 2) (pos 29))
+  pub after-leap-day-0 : civilAnswer (negsuc 719467) ≡ value (date (pos 0) (pos 3) (pos 1))
+  pub february-1900 : civilAnswer (negsuc 25508) ≡ value (date (pos 1900) (pos 2) (pos 28))
+  pub march-1900 : civilAnswer (negsuc 25507) ≡ value (date (pos 1900) (pos 3) (pos 1))
+  pub before-epoch : (civilAnswer (negsuc 0) ≡ value (date (pos 1969) (pos 12) (pos 31))) × (weekdayAnswer (negsuc 0) ≡ value (pos 3))
+  pub leap-day-2000 : civilAnswer (pos 11016) ≡ value (date (pos 2000) (pos 2) (pos 29))
+  pub february-2100 : civilAnswer (pos 47540) ≡ value (date (pos 2100) (pos 2) (pos 28))
+  pub march-2100 : civilAnswer (pos 47541) ≡ value (date (pos 2100) (pos 3) (pos 1))
+  pub last : (civilAnswer (pos 2932896) ≡ value (date (pos 9999) (pos 12) (pos 31))) × (weekdayAnswer (pos 2932896) ≡ value (pos 5))
+
+-- a month and a day that each year has, or that the leap rule gives it
+pub table : Table
+unfolding weekdayAnswer weekday count start leaps leapDay leapℕ before monthDays
+table =
+    record {
+      first = (on (negsuc 719527) 400 1 1 (omega arith) refl refl, refl);
+      leap-day-0 = on (negsuc 719468) 400 2 29 (omega arith) refl refl;
+      after-leap-day-0 = on (negsuc 719467) 400 3 1 (omega arith) refl refl;
+      february-1900 = on (negsuc 25508) 2300 2 28 (omega arith) refl refl;
+      march-1900 = on (negsuc 25507) 2300 3 1 (omega arith) refl refl;
+      before-epoch = (on (negsuc 0) 2369 12 31 (omega arith) refl refl, refl);
+      leap-day-2000 = on (pos 11016) 2400 2 29 (omega arith) refl refl;
+      february-2100 = on (pos 47540) 2500 2 28 (omega arith) refl refl;
+      march-2100 = on (pos 47541) 2500 3 1 (omega arith) refl refl;
+      last = (on (pos 2932896) 10399 12 31 (omega arith) refl refl, refl);
+    }

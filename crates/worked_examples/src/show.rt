@@ -1,0 +1,63 @@
+// Answers in words and numbers, on standard output.
+
+use calendar::DateAnswer;
+use calendar::FlagAnswer;
+use calendar::NumberAnswer;
+use refusal::Refusal;
+
+pub fn text(words: &[u8]) {
+    io::write_all(libc::STDOUT_FILENO, words);
+}
+
+pub fn number(n: i64) {
+    if n < 0 {
+        text(b"-");
+        natural((-1 - n) as u64 + 1);
+    } else {
+        natural(n as u64);
+    }
+}
+
+fn natural(n: u64) {
+    io::print_decimal(libc::STDOUT_FILENO, n);
+}
+
+pub fn refused(refusal: Refusal) {
+    text(b"refused ");
+    natural(refusal::number(refusal));
+}
+
+pub fn number_answer(answer: NumberAnswer) {
+    match answer {
+        NumberAnswer::Value(n) => number(n),
+        NumberAnswer::Refused(r) => refused(r),
+    }
+}
+
+pub fn flag_answer(answer: FlagAnswer) {
+    match answer {
+        FlagAnswer::Value(flag) => yes_or_no(flag),
+        FlagAnswer::Refused(r) => refused(r),
+    }
+}
+
+fn yes_or_no(flag: bool) {
+    if flag {
+        text(b"yes");
+    } else {
+        text(b"no");
+    }
+}
+
+pub fn date_answer(answer: DateAnswer) {
+    match answer {
+        DateAnswer::Value(date) => {
+            number(date.year);
+            text(b" ");
+            number(date.month);
+            text(b" ");
+            number(date.day);
+        }
+        DateAnswer::Refused(r) => refused(r),
+    }
+}
