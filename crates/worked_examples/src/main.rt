@@ -58,12 +58,7 @@ fn dates() {
 }
 
 fn date(year: i64, month: i64, day: i64) {
-    text(b"date ");
-    number(year);
-    text(b" ");
-    number(month);
-    text(b" ");
-    number(day);
+    named(year, month, day);
     text(b": count ");
     number_answer(calendar::days_from_civil(year, month, day));
     text(b", day of year ");
@@ -73,6 +68,15 @@ fn date(year: i64, month: i64, day: i64) {
     text(b", leap ");
     flag_answer(calendar::is_leap(year));
     text(b"\n");
+}
+
+fn named(year: i64, month: i64, day: i64) {
+    text(b"date ");
+    number(year);
+    text(b" ");
+    number(month);
+    text(b" ");
+    number(day);
 }
 
 // Shifted dates: out of the range by one day, and by more than 64 bits can add.
@@ -87,12 +91,7 @@ fn shifts() {
 }
 
 fn shift(year: i64, month: i64, day: i64, days: i64) {
-    text(b"date ");
-    number(year);
-    text(b" ");
-    number(month);
-    text(b" ");
-    number(day);
+    named(year, month, day);
     text(b" shifted by ");
     number(days);
     text(b": ");

@@ -3,10 +3,6 @@ use native.Mathlib.Omega.{arith}
 use borrow.Author.Needs.{needs}
 use Rattle.worked_examples.proofs.show.number.Statement.{statement}
 use Rattle.worked_examples.proofs.show.number.Tie as tie
-use Rattle.worked_examples.proofs.show.number.Reads as reads
-use Rattle.worked_examples.proofs.show.number.Lts as lts
-use Rattle.worked_examples.proofs.show.natural.Reads as natural-reads
-use Rattle.worked_examples.proofs.show.text.Reads as text-reads
 
 slice-aggregate-text : tie.Need-slice-aggregate-text
 slice-aggregate-text c = search needs
