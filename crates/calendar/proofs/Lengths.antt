@@ -1,94 +1,114 @@
--- What the match on the month answers.
+-- What the match on the month answers, and the leap day that February adds.
 use Prim.Native.Nat.{ℕ, _+_, _^_, _≤_, _<_}
-use mathlib.Core.Path.{_≡_, sym, ap, _∙_}
-use mathlib.Core.Bool.{true, false, cond}
-use native.Mathlib.Decide.{ℕ-discrete}
+use mathlib.Core.Path.{_≡_, refl, sym, ap, ap₂, _∙_, subst}
+use mathlib.Core.Bool.{Bool, true, false, cond}
 use native.Mathlib.Omega.{arith}
-use lib.Dec.{ltb}
-use lib.IntN.{ℤ, pos, _+ℤ_}
+use lib.Dec.{eqb, lit<}
+use lib.IntN.{ℤ, pos, natAbs, _+ℤ_}
 use lib.Signed.{ltZ}
-use borrow.Author.Tests.{ltb-true, ltb-false, lt-ltb}
+use borrow.Author.Tests.{ltb-false}
 use mir.Syntax.{w64}
 use mir.Val.{SFits, toZ, ofZ}
 use mir.Facts.{toZ-ofZ, toZ-pos}
-use Rattle.refusal.specs.Outcome.{Outcome, value, refused}
-use Rattle.numbers.specs.Range.{outside, since}
-use Rattle.numbers.proofs.Integers.{add-since}
-use Rattle.numbers.proofs.Machine.{read, tested-below, tested-above}
+use Rattle.refusal.specs.Outcome.{value, refused}
+use Rattle.numbers.specs.Range.{outside, since, eqZ}
+use Rattle.numbers.proofs.Integers.{above, outside-no, add-since, since-le, eqZ-true}
+use Rattle.numbers.proofs.Machine.{read}
 use Rattle.calendar.specs.Range.{firstYear, lastYear}
-use Rattle.calendar.specs.Gregorian.{monthLengths, monthLength}
+use Rattle.calendar.specs.Gregorian.{monthLength}
 use Rattle.calendar.specs.Answers.{lastDayAnswer}
+use Rattle.calendar.specs.Checked.{commonLength}
 use Rattle.calendar.specs.Closed.{baseYear, leapDay, monthDays}
-use Rattle.calendar.proofs.Months.{length-public}
+use Rattle.calendar.proofs.Leap.{leap-le}
+use Rattle.calendar.proofs.Months.{months, length-le, length-public}
 
--- what the month decides in a year of the range
-abbrev pub ofMonth : (year month : ℤ) → Outcome ℤ
-ofMonth year month = cond (outside (pos 1) (pos 12) month) (refused 2) (value (monthLength year month))
-
-february-length : (y : ℕ) → monthLength (baseYear +ℤ pos y) (pos 2) ≡ pos (28 + leapDay y)
-unfolding monthDays
-february-length y = length-public y 2 (omega arith) (omega arith)
-
-past-three : {k : ℕ} → 1 ≤ k → (k ≡ 1 → ⊥) → (k ≡ 2 → ⊥) → (k ≡ 3 → ⊥) → 4 ≤ k
-past-three h n1 n2 n3 = omega arith
-
-eight : {k : ℕ} → 4 ≤ k → (k ≡ 4 → ⊥) → (k ≡ 5 → ⊥) → (k ≡ 6 → ⊥) → (k ≡ 7 → ⊥) → k < 9 → k ≡ 8
-eight h n4 n5 n6 n7 l = omega arith
-
-module _ (year month : ℤ) (f : SFits w64 month) (h : outside firstYear lastYear year ≡ false) where
-  month-decides : lastDayAnswer year month ≡ ofMonth year month
-  unfolding lastDayAnswer
-  month-decides = rw h
-
-  -- a key is the month's bits
+-- a key of the match is the month's bits
+module _ (month : ℤ) (f : SFits w64 month) where
   pub month-is : (k : ℕ) → k < 2 ^ 63 → ofZ w64 month ≡ k → month ≡ pos k
   month-is k small e = sym (toZ-ofZ f) ∙ ap (toZ w64) e ∙ toZ-pos w64 small
 
-  pub at-key : (k : ℕ) → k < 2 ^ 63 → ofZ w64 month ≡ k → ofMonth year (pos k) ≡ lastDayAnswer year month
-  at-key k small e = ap (ofMonth year) (sym (month-is k small e)) ∙ sym month-decides
+  pub at-key : (k : ℕ) → k < 2 ^ 63 → ofZ w64 month ≡ k → commonLength (pos k) ≡ commonLength month
+  at-key k small e = ap commonLength (sym (month-is k small e))
 
-  pub no-month : outside (pos 1) (pos 12) month ≡ true → refused 2 ≡ lastDayAnswer year month
-  no-month e = ap (λ t. cond t (refused 2) (value (monthLength year month))) (sym e) ∙ sym month-decides
+  pub no-key : ((k : ℕ) → 1 ≤ k → k ≤ 12 → ofZ w64 month ≡ k → ⊥) → refused 2 ≡ commonLength month
+  unfolding commonLength
+  no-key none = go (outside (pos 1) (pos 12) month) refl
+    where
+      go : (t : Bool) → outside (pos 1) (pos 12) month ≡ t → refused 2 ≡ cond t (refused 2) (value (pos (monthDays 0 (natAbs month))))
+      go true e = refl
+      go false e =
+          let t = outside-no (pos 1) (pos 12) month e in
+          let n = since-le (pos 1) (pos 12) refl month (t .0) (t .1) in
+          absurd (none (1 + since (pos 1) month) (omega arith) (omega arith) (sym (ap (ofZ w64) (add-since (pos 1) month (t .0)))))
 
-  pub too-small : ltZ (read month) (pos 1) ≡ true → refused 2 ≡ lastDayAnswer year month
-  too-small lo = no-month (tested-below (pos 1) (pos 12) f lo)
+  pub in-february : (l : ℕ) → ofZ w64 month ≡ 2 → l ≡ cond (eqZ month (pos 2)) l 0
+  in-february l e = ap (λ m. cond (eqZ m (pos 2)) l 0) (sym (month-is 2 (lit< tt) e))
 
-  -- a month that is not below 1
-  module _ (lo : ltZ (read month) (pos 1) ≡ false) where
-    pub key : ℕ
-    key = 1 + since (pos 1) month
+  pub not-in-february : (l : ℕ) → (ofZ w64 month ≡ 2 → ⊥) → 0 ≡ cond (eqZ month (pos 2)) l 0
+  not-in-february l none = go (eqZ month (pos 2)) refl
+    where
+      go : (t : Bool) → eqZ month (pos 2) ≡ t → 0 ≡ cond t l 0
+      go true e = absurd (none (ap (ofZ w64) (eqZ-true month (pos 2) e)))
+      go false e = refl
 
-    pub key-is : month ≡ pos key
-    unfolding key
-    key-is = sym (add-since (pos 1) month (sym (ap (λ z. ltZ z (pos 1)) (toZ-ofZ f)) ∙ lo))
+-- a month of a common year, accepted or refused
+common-tests : (t : Bool) (x : ℤ) {n : ℤ} → value n ≡ cond t (refused 2) (value x) → (t ≡ false) × (n ≡ x)
+common-tests true x e = absurd (let z : _≡_ {A = ℕ} 0 1 = cc in omega arith)
+common-tests false x e = (refl, cc)
 
-    pub key-bits : ofZ w64 month ≡ key
-    key-bits = ap (ofZ w64) key-is
+common-refusals : (t : Bool) (x y : ℤ) {k : ℕ} → refused k ≡ cond t (refused 2) (value x) → refused k ≡ cond t (refused 2) (value y)
+common-refusals true x y e = e
+common-refusals false x y e = absurd (let z : _≡_ {A = ℕ} 0 1 = cc in omega arith)
 
-    pub key-positive : 1 ≤ key
-    unfolding key
-    key-positive = omega arith
+pub length-refused : (year month : ℤ) (k : ℕ) → outside firstYear lastYear year ≡ false → refused k ≡ commonLength month → refused k ≡ lastDayAnswer year month
+unfolding commonLength lastDayAnswer
+length-refused year month k h e =
+    rw h (common-refusals (outside (pos 1) (pos 12) month) (pos (monthDays 0 (natAbs month))) (monthLength year month) e)
 
-    key-below : (n : ℕ) → ltZ (read month) (pos n) ≡ ltb key n
-    key-below n = ap (λ z. ltZ z (pos n)) (toZ-ofZ f ∙ key-is)
+with-leap-day : (l m : ℕ) → 1 ≤ m → m ≤ 12 → monthDays l m ≡ monthDays 0 m + cond (eqb m 2) l 0
+unfolding monthDays
+with-leap-day l = months (λ m. monthDays l m ≡ monthDays 0 m + cond (eqb m 2) l 0) (omega arith)
 
-    pub too-large : (key ≡ 9 → ⊥) → (key ≡ 10 → ⊥) → (key ≡ 11 → ⊥) → (key ≡ 12 → ⊥) → ltZ (read month) (pos 9) ≡ false → refused 2 ≡ lastDayAnswer year month
-    too-large n9 n10 n11 n12 hi =
-        let l = ltb-false key 9 (sym (key-below 9) ∙ hi) in
-        no-month
-        (tested-above (pos 1) (pos 12) f lo (ap (ltZ (pos 12)) (toZ-ofZ f ∙ key-is) ∙ lt-ltb 12 key (omega arith)))
+-- the length of an accepted month, with the leap day
+module _ (year month len : ℤ) (y l x : ℕ) (h : outside firstYear lastYear year ≡ false) (e : value len ≡ commonLength month)
+    (p : baseYear +ℤ pos y ≡ year) (q : l ≡ leapDay y) (r : x ≡ cond (eqZ month (pos 2)) l 0) where
+  passed : (outside (pos 1) (pos 12) month ≡ false) × (len ≡ pos (monthDays 0 (natAbs month)))
+  unfolding commonLength
+  passed = common-tests (outside (pos 1) (pos 12) month) (pos (monthDays 0 (natAbs month))) e
 
-    pub seven-or-eight :
-        (key ≡ 1 → ⊥) → (key ≡ 2 → ⊥) → (key ≡ 3 → ⊥) → (key ≡ 4 → ⊥) → (key ≡ 5 → ⊥) → (key ≡ 6 → ⊥) →
-        ltZ (read month) (pos 9) ≡ true → value (pos 31) ≡ lastDayAnswer year month
-    unfolding monthLength monthLengths
-    seven-or-eight n1 n2 n3 n4 n5 n6 hi =
-        go (ℕ-discrete key 7)
-      where
-        go : Dec (key ≡ 7) → value (pos 31) ≡ lastDayAnswer year month
-        go (yes e) = at-key 7 (omega arith) (key-bits ∙ e)
-        go (no e) = at-key 8 (omega arith) (key-bits ∙ eight (past-three key-positive n1 n2 n3) n4 n5 n6 e (ltb-true key 9 (sym (key-below 9) ∙ hi)))
+  number : (m : ℕ) × ((1 ≤ m) × ((m ≤ 12) × (month ≡ pos m)))
+  number =
+      let t = outside-no (pos 1) (pos 12) month (passed .0) in
+      let a = above (pos 1) month (t .0) in
+      (1 + a .0, (omega arith, (ltb-false 12 (1 + a .0) (ap (ltZ (pos 12)) (sym (a .1)) ∙ t .1), a .1)))
 
-  pub february : (y l : ℕ) → baseYear +ℤ pos y ≡ year → l ≡ leapDay y → ofZ w64 month ≡ 2 → value (pos (28 + l)) ≡ lastDayAnswer year month
-  february y l p q e =
-      ap value (ap (λ l. pos (28 + l)) q ∙ sym (february-length y) ∙ ap (λ y. monthLength y (pos 2)) p) ∙ at-key 2 (omega arith) e
+  days : monthDays 0 (natAbs month) + x ≡ monthDays (leapDay y) (natAbs month)
+  days =
+      let n = number in
+      subst (λ z. x ≡ cond (eqZ z (pos 2)) l 0 → monthDays 0 (natAbs z) + x ≡ monthDays (leapDay y) (natAbs z)) (sym (n .1 .1 .1))
+      (λ r. ap (λ x. monthDays 0 (n .0) + x) (r ∙ ap (λ l. cond (eqb (n .0) 2) l 0) q) ∙ sym (with-leap-day (leapDay y) (n .0) (n .1 .0) (n .1 .1 .0)))
+      r
+
+  small : monthDays (leapDay y) (natAbs month) ≤ 31
+  small =
+      let n = number in
+      subst (λ z. monthDays (leapDay y) (natAbs z) ≤ 31) (sym (n .1 .1 .1)) (length-le (leapDay y) (n .0) (leap-le y) (n .1 .0) (n .1 .1 .0))
+
+  sum : read len +ℤ toZ w64 x ≡ pos (monthDays (leapDay y) (natAbs month))
+  sum =
+      let d = days in
+      let s = small in
+      let f : SFits w64 (pos (monthDays 0 (natAbs month))) = record { sfits = omega arith } in
+      ap₂ _+ℤ_ (ap read (passed .1) ∙ toZ-ofZ f) (toZ-pos w64 {n = x} (omega arith)) ∙ ap pos d
+
+  pub length-fits : SFits w64 (read len +ℤ toZ w64 x)
+  length-fits = let s = small in subst (SFits w64) (sym sum) (record { sfits = omega arith })
+
+  pub length-is : value (read (read len +ℤ toZ w64 x)) ≡ lastDayAnswer year month
+  unfolding lastDayAnswer
+  length-is =
+      let n = number in
+      rw (h, passed .0)
+      (ap value
+      (toZ-ofZ length-fits ∙ sum ∙ ap (λ z. pos (monthDays (leapDay y) (natAbs z))) (n .1 .1 .1)
+      ∙ sym (length-public y (n .0) (n .1 .0) (n .1 .1 .0)) ∙ (λ i. monthLength (p i) (sym (n .1 .1 .1) i))))

@@ -22,16 +22,16 @@ mod range;
 mod year;
 
 ghost use mathlib.Core.Path.{_≡_};
-ghost use mathlib.Core.Bool.{false};
+ghost use mathlib.Core.Bool.{false, cond};
 ghost use Prim.Native.Nat.{_≤_};
 ghost use lib.IntN.{pos, _+ℤ_};
-ghost use Rattle.numbers.specs.Range.{outside, since};
+ghost use Rattle.numbers.specs.Range.{outside, since, eqZ};
 ghost use Rattle.refusal.specs.Outcome.{value};
 ghost use Rattle.calendar.specs.Range.{firstYear, lastYear, firstCount, lastCount};
 ghost use Rattle.calendar.specs.Count.{dateOfCount};
 ghost use Rattle.calendar.specs.Answers.{numberOutcome, dateOutcome, flagOutcome, leapAnswer, lastDayAnswer, ofDate, daysAnswer, dayOfYearAnswer, civilAnswer, weekdayAnswer, addDaysAnswer};
 ghost use Rattle.calendar.specs.Closed.{fromYear, toYear, baseYear, lastDay};
-ghost use Rattle.calendar.specs.Checked.{checkedOutcome, CheckedValid};
+ghost use Rattle.calendar.specs.Checked.{checkedOutcome, CheckedValid, commonLength};
 
 pub struct Date {
     pub year: i64,
@@ -103,11 +103,12 @@ pub fn last_day_of_month(year: i64, month: i64) -> NumberAnswer
     if year_outside(year) {
         return NumberAnswer::Refused(Refusal::YearOutOfRange);
     }
-    match month {
-        1 | 3 | 5 | 7 | 8 | 10 | 12 => NumberAnswer::Value(31),
-        4 | 6 | 9 | 11 => NumberAnswer::Value(30),
-        2 => NumberAnswer::Value((28 + year::leap_day(years_from_base(year))) as i64),
-        _ => NumberAnswer::Refused(Refusal::MonthOutOfRange),
+    match common_length(month) {
+        NumberAnswer::Value(length) => {
+            let leap = year::leap_day(years_from_base(year));
+            NumberAnswer::Value(length + in_february(month, leap) as i64)
+        }
+        NumberAnswer::Refused(r) => NumberAnswer::Refused(r),
     }
 }
 
@@ -137,6 +138,26 @@ pub fn add_days(year: i64, month: i64, day: i64, days: i64) -> DateAnswer
         }
         NumberAnswer::Refused(r) => DateAnswer::Refused(r),
     }
+}
+
+// The length of a month of a common year.
+fn common_length(month: i64) -> NumberAnswer
+    ensures { λ r. ⌜ numberOutcome r ≡ commonLength month ⌝ }
+{
+    match month {
+        1 | 3 | 5 | 7 => NumberAnswer::Value(31),
+        4 | 6 | 9 | 11 => NumberAnswer::Value(30),
+        8 | 10 | 12 => NumberAnswer::Value(31),
+        2 => NumberAnswer::Value(28),
+        _ => NumberAnswer::Refused(Refusal::MonthOutOfRange),
+    }
+}
+
+// The leap days of a year that fall into a month.
+fn in_february(month: i64, leap: u32) -> u32
+    ensures { λ r. ⌜ r ≡ cond (eqZ month (pos 2)) leap 0 ⌝ }
+{
+    if month == 2 { leap } else { 0 }
 }
 
 // A tested date, its year counted from BASE_YEAR.

@@ -1,0 +1,44 @@
+use Rattle.calendar.proofs.Lengths.{at-key, no-key}
+use Rattle.calendar.proofs.Months.{months}
+use Rattle.calendar.specs.Closed.{monthDays}
+use Rattle.calendar.specs.Checked.{commonLength}
+use mir.Val.{ofZ}
+use mir.Syntax.{w64}
+use lib.Dec.{lit<}
+use mathlib.Core.Logic.{⊎-elim, inl, inr}
+use mathlib.Core.Path.{_≡_}
+use Prim.Native.Nat.{ℕ, _<_, _^_}
+use Rattle.calendar.proofs.common_length.Statement.{statement}
+use Rattle.calendar.proofs.common_length.Tie as tie
+
+returns : tie.Need-returns
+unfolding commonLength monthDays
+returns c = let s = c .before in
+    let is : (k : ℕ) → k < 2 ^ 63 → ofZ w64 (s .args .month) ≡ k → _ = at-key (s .args .month) (s .fits .month) in
+    ⊎-elim (is 1 (lit< tt)) (⊎-elim (is 3 (lit< tt)) (⊎-elim (is 5 (lit< tt)) (is 7 (lit< tt)))) (c .match .keys1)
+
+returns-2 : tie.Need-returns-2
+unfolding commonLength monthDays
+returns-2 c = let s = c .before in
+    let is : (k : ℕ) → k < 2 ^ 63 → ofZ w64 (s .args .month) ≡ k → _ = at-key (s .args .month) (s .fits .month) in
+    ⊎-elim (is 4 (lit< tt)) (⊎-elim (is 6 (lit< tt)) (⊎-elim (is 9 (lit< tt)) (is 11 (lit< tt)))) (c .match .keys2)
+
+returns-3 : tie.Need-returns-3
+unfolding commonLength monthDays
+returns-3 c = let s = c .before in
+    let is : (k : ℕ) → k < 2 ^ 63 → ofZ w64 (s .args .month) ≡ k → _ = at-key (s .args .month) (s .fits .month) in
+    ⊎-elim (is 8 (lit< tt)) (⊎-elim (is 10 (lit< tt)) (is 12 (lit< tt))) (c .match .keys3)
+
+returns-4 : tie.Need-returns-4
+unfolding commonLength monthDays
+returns-4 c = let s = c .before in
+    let is : (k : ℕ) → k < 2 ^ 63 → ofZ w64 (s .args .month) ≡ k → _ = at-key (s .args .month) (s .fits .month) in
+    is 2 (lit< tt) (c .match .keys4)
+
+returns-5 : tie.Need-returns-5
+returns-5 c = let s = c .before in
+    let r = c .match .rest in
+    no-key (s .args .month) (s .fits .month) (months (λ k. ofZ w64 (s .args .month) ≡ k → ⊥) ((((((((((((tt, λ e. r .0 .0 .0 .1 (inl e)), λ e. r .1 e), λ e. r .0 .0 .0 .1 (inr (inl e))), λ e. r .0 .0 .1 (inl e)), λ e. r .0 .0 .0 .1 (inr (inr (inl e)))), λ e. r .0 .0 .1 (inr (inl e))), λ e. r .0 .0 .0 .1 (inr (inr (inr e)))), λ e. r .0 .1 (inl e)), λ e. r .0 .0 .1 (inr (inr (inl e)))), λ e. r .0 .1 (inr (inl e))), λ e. r .0 .0 .1 (inr (inr (inr e)))), λ e. r .0 .1 (inr (inr e))))
+
+pub common-length-spec : {M : Type 1} → statement M
+common-length-spec = tie.close (tie.spec returns returns-2 returns-3 returns-4 returns-5)
