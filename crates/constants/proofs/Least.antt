@@ -1,7 +1,8 @@
 -- What `leastBelow` finds.
-use Prim.Native.Nat.{ℕ, zero, suc, _<_}
-use mathlib.Core.Path.{_≡_, refl, ap, _∙_}
+use Prim.Native.Nat.{ℕ, zero, suc, _≤_, _<_}
+use mathlib.Core.Path.{_≡_, refl, ap, _∙_, subst}
 use mathlib.Core.Bool.{Bool, true, false, cond}
+use mathlib.Core.Logic.{_↔_}
 use native.Mathlib.Decide.{decLt}
 use native.Mathlib.Omega.{arith}
 use Rattle.numbers.proofs.Integers.{no-both}
@@ -55,3 +56,19 @@ module _ (test : ℕ → Bool) where
 
   pub found : (l : ℕ) (f : Found) → Right l f → leastBelow test l ≡ f
   found l f r = one-right l (leastBelow test l) f (finds l) r
+
+  -- so it finds n exactly when n is the first that passes, and nothing exactly when none passes
+  pub finds-at : (l n : ℕ) → (leastBelow test l ≡ at n) ↔ FirstAt l n
+  finds-at l n = (λ e. subst (Right l) e (finds l), found l (at n))
+
+  pub finds-none : (l : ℕ) → (leastBelow test l ≡ none) ↔ NoneBelow l
+  finds-none l = (λ e. subst (Right l) e (finds l), found l none)
+
+  -- a longer search finds the same
+  pub least-stays : (k l n : ℕ) → leastBelow test k ≡ at n → k ≤ l → leastBelow test l ≡ at n
+  least-stays k l n e le =
+      let f = finds-at k n .0 e in
+      finds-at l n .1 (record { below = omega (arith, f .below); passes = f .passes; least = f .least })
+
+  pub none-stays : (k l : ℕ) → leastBelow test l ≡ none → k ≤ l → leastBelow test k ≡ none
+  none-stays k l e le = finds-none k .1 (λ n lt. finds-none l .0 e n (omega arith))

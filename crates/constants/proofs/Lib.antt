@@ -6,3 +6,5 @@ pub mod Sides
 pub mod Signed
 pub mod Least
 pub mod Answers
+pub mod Laws
+pub mod Examples
