@@ -1,6 +1,6 @@
 -- The calls' answers, from what the test of the limits and the search tell.
 use Prim.Native.Nat.{ℕ, _≤_, _<_}
-use mathlib.Core.Path.{_≡_, sym, ap, ap₂, _∙_, subst}
+use mathlib.Core.Path.{_≡_, sym, ap, _∙_}
 use mathlib.Core.Bool.{Bool, true, false, _||_}
 use native.Mathlib.Decide.{decLt}
 use native.Mathlib.Omega.{arith}
@@ -9,12 +9,12 @@ use lib.IntN.{ℤ, pos, natAbs}
 use Rattle.refusal.specs.Outcome.{value, refused, refusedAt}
 use Rattle.constants.specs.declared.limits.Constants.{Constants}
 use Rattle.constants.specs.Difference.{apart, differs}
-use Rattle.constants.specs.Least.{Found, at, none, leastBelow}
+use Rattle.constants.specs.Least.{at, none, leastBelow}
 use Rattle.constants.specs.Limits.{outsideLimits, endOutside, boundOutside}
 use Rattle.constants.specs.Answers.{difference, searchAnswer, claimed, claimAnswer}
-use Rattle.constants.specs.Allowed.{Passed, constantsOf, exact, device, differsAt}
+use Rattle.constants.specs.Allowed.{Passed, exact, device, differsAt}
 use Rattle.constants.specs.Residues.{Differs, IsLeast}
-use Rattle.constants.proofs.Least.{NoneBelow, FirstAt, Right, found}
+use Rattle.constants.proofs.Least.{NoneBelow, found}
 
 -- numbers outside their limits
 module _ (a b d m c k t end : ℤ) where

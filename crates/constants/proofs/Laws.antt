@@ -1,7 +1,7 @@
 -- Demand 3: each answer of the search and of the claim, exactly when.
 use Prim.Native.Nat.{ℕ, _≤_, _<_}
 use mathlib.Core.Path.{_≡_, refl, sym, ap, _∙_}
-use mathlib.Core.Bool.{Bool, true, false, cond, _||_}
+use mathlib.Core.Bool.{Bool, true, false, _||_}
 use mathlib.Core.Logic.{_↔_, Iff·trans, _⊎_, inl, inr}
 use native.Mathlib.Decide.{decLt}
 use native.Mathlib.Omega.{arith}
@@ -115,9 +115,10 @@ module _ (a b d m c k t : ℤ) where
       -- 11 exactly when nothing up to B, and B included, differs
       pub none-exactly : (claimAnswer a b d m c k t bound ≡ refused 11) ↔ ((n : ℕ) → n ≤ B → D n ≡ false)
       none-exactly =
-          let i = claimed-none (leastBelow D B) (D B) in
-          (λ e. let p = i .0 (same .0 e) in λ n le. up-to n le (finds-none D B .0 (p .0)) (p .1) (decLt n B),
-          λ p. same .1 (i .1 (finds-none D B .1 (λ n lt. p n (omega arith)), p B (omega arith))))
+          let i = claimed-none (leastBelow D B) (D B) in (
+            λ e. let p = i .0 (same .0 e) in λ n le. up-to n le (finds-none D B .0 (p .0)) (p .1) (decLt n B),
+            λ p. same .1 (i .1 (finds-none D B .1 (λ n lt. p n (omega arith)), p B (omega arith))),
+          )
         where
           up-to : (n : ℕ) → n ≤ B → NoneBelow D B → D B ≡ false → Dec (n < B) → D n ≡ false
           up-to n le f here (yes y) = f n y

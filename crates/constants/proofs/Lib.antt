@@ -1,6 +1,8 @@
 pub mod Arithmetic
 pub mod Bounds
+pub mod Decides
 pub mod Euclid
+pub mod Reaches
 pub mod Gaps
 pub mod Sides
 pub mod Signed

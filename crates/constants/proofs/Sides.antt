@@ -10,10 +10,11 @@ use Rattle.constants.specs.declared.search.Question.{Question}
 use Rattle.constants.specs.declared.search.Question.the-variants.{Residues, Periods}
 use Rattle.constants.specs.Difference.{exactQuotient}
 use Rattle.constants.specs.Allowed.{Allowed, exact}
-use Rattle.constants.specs.Stairs.{stair, LineReaches, StairsReach, Sizes, Answers}
+use Rattle.constants.specs.Stairs.{stair, LineReaches, StairsReach, Sizes, Decides}
 use Rattle.constants.specs.Residues.{need, have, gap, SomeGap, SideOf, Reached, Small}
 use Rattle.constants.proofs.Bounds.{power-le, exact-le, need-lt, have-lt}
-use Rattle.constants.proofs.Euclid.{stair-start, answers}
+use Rattle.constants.proofs.Decides.{decides-iff}
+use Rattle.constants.proofs.Euclid.{stair-start}
 
 first-exact : (q : Constants) → exact q 0 ≡ q .b / q .d
 unfolding exactQuotient
@@ -88,19 +89,19 @@ module _ {q : Constants} (w : Allowed q) {s : Side} (v : SideOf q s) where
     at-first h le = (0, h, omega (arith, v .need-is, v .have-is))
 
     pub line-gap : s .above ≡ true → (g : ℕ) → s .need ≡ g + (s .have + bound) → (r : Bool)
-        → Answers r (LineReaches n (q .d) (q .a) (s .rest) (q .m) (s .power) g) → Answers r (SomeGap q (s .above) n bound)
+        → Decides r (LineReaches n (q .d) (q .a) (s .rest) (q .m) (s .power) g) → Decides r (SomeGap q (s .above) n bound)
     unfolding gap
     line-gap h g e r =
-        answers
+        decides-iff
         (λ z. (z .0, z .1, omega (arith, z .2, line-need h (z .0), line-have h (z .0))))
         (λ z. (z .0, z .1, omega (arith, z .2, line-need h (z .0), line-have h (z .0))))
         r
 
     pub stairs-gap : s .above ≡ false → (g : ℕ) → s .need ≡ g + (s .have + bound) → (r : Bool)
-        → Answers r (StairsReach n (q .d) (q .a) (s .rest) (q .m) (s .power) g) → Answers r (SomeGap q (s .above) n bound)
+        → Decides r (StairsReach n (q .d) (q .a) (s .rest) (q .m) (s .power) g) → Decides r (SomeGap q (s .above) n bound)
     unfolding gap
     stairs-gap h g e r =
-        answers
+        decides-iff
         (λ z. (z .0, z .1, omega (arith, z .2, stairs-need h (z .0), stairs-have h (z .0))))
         (λ z. (z .0, z .1, omega (arith, z .2, stairs-need h (z .0), stairs-have h (z .0))))
         r

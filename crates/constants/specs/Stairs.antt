@@ -23,7 +23,7 @@ pub record Sizes (n M C D A B g : ℕ) : Type 0 where
   pub rise : B * stair M C D (n - 1) ≤ 2 ^ 60
   pub span : C * (n - 1) + D ≤ 2 ^ 60
 
--- the answer r to whether P holds is right
-abbrev pub Answers : (r : Bool) (P : Type 0) → Type 0
-Answers true P = P
-Answers false P = P → ⊥
+-- r says whether P holds
+abbrev pub Decides : (r : Bool) (P : Type 0) → Type 0
+Decides true P = P
+Decides false P = P → ⊥

@@ -4,7 +4,7 @@
 ghost use mathlib.Core.Path.{_≡_};
 ghost use Prim.Native.Nat.{ℕ, _*_, _^_, _<_, _≤_, min};
 ghost use Rattle.constants.specs.Allowed.{Allowed};
-ghost use Rattle.constants.specs.Stairs.{Answers};
+ghost use Rattle.constants.specs.Stairs.{Decides};
 ghost use Rattle.constants.specs.Residues.{Differs, IsLeast, gap, SomeGap, SideOf, Sides, Reached, Small, FirstReached, Later};
 use crate::limits::Constants;
 use crate::stairs;
@@ -19,7 +19,9 @@ struct Side {
     power: u64,
     // b % d
     rest: u64,
+    // [0, 2^59)
     need: u64,
+    // [0, 2^59)
     have: u64,
 }
 
@@ -31,6 +33,7 @@ enum Question {
     Periods(u64),
 }
 
+// The side above or below the exact quotient.
 fn side_of(q: Constants, power: u64, above: bool) -> Side
     requires { ⌜ Allowed q × (power ≡ 2 ^ q .k) ⌝ }
     ensures { λ s. ⌜ (s .above ≡ above) × SideOf q s ⌝ }
@@ -61,7 +64,7 @@ fn side_of(q: Constants, power: u64, above: bool) -> Side
 // Whether some residue below `end` has a gap of at most `bound` on the side.
 fn any_gap_within(q: Constants, s: Side, end: u64, bound: u64) -> bool
     requires { ⌜ Allowed q × SideOf q s × (0 < end) × (end ≤ q .d) × (bound < 2 ^ 60) ⌝ }
-    ensures { λ r. ⌜ Answers r (SomeGap q (s .above) end bound) ⌝ }
+    ensures { λ r. ⌜ Decides r (SomeGap q (s .above) end bound) ⌝ }
 {
     let have = s.have + bound;
     if s.need <= have {
@@ -75,9 +78,10 @@ fn any_gap_within(q: Constants, s: Side, end: u64, bound: u64) -> bool
     }
 }
 
+// The answer for x.
 fn reached(q: Constants, s: Side, question: Question, x: u64) -> bool
     requires { ⌜ Allowed q × SideOf q s × (0 < x) × Small q question x ⌝ }
-    ensures { λ r. ⌜ Answers r (Reached q (s .above) question x) ⌝ }
+    ensures { λ r. ⌜ Decides r (Reached q (s .above) question x) ⌝ }
 {
     match question {
         Question::Residues(bound) => any_gap_within(q, s, x, bound),

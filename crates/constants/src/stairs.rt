@@ -1,7 +1,7 @@
 // Whether a straight line is up with a staircase below an end, by Euclid's algorithm on the staircase's slope.
 // The staircase at x is (rise*x + start) / width steps, each `height` high; the line at x is slope*x.
 
-ghost use Rattle.constants.specs.Stairs.{LineReaches, StairsReach, Sizes, Answers};
+ghost use Rattle.constants.specs.Stairs.{LineReaches, StairsReach, Sizes, Decides};
 
 // Whether the line is `lead` above the staircase, or more, at some x below `end`.
 pub fn line_reaches(
@@ -14,7 +14,7 @@ pub fn line_reaches(
     lead: u64,
 ) -> bool
     requires { ⌜ Sizes end width rise start slope height lead ⌝ }
-    ensures { λ r. ⌜ Answers r (LineReaches end width rise start slope height lead) ⌝ }
+    ensures { λ r. ⌜ Decides r (LineReaches end width rise start slope height lead) ⌝ }
 {
     if end == 1 {
         return false;
@@ -51,7 +51,7 @@ pub fn stairs_reach(
     lead: u64,
 ) -> bool
     requires { ⌜ Sizes end width rise start slope height lead ⌝ }
-    ensures { λ r. ⌜ Answers r (StairsReach end width rise start slope height lead) ⌝ }
+    ensures { λ r. ⌜ Decides r (StairsReach end width rise start slope height lead) ⌝ }
 {
     if end == 1 {
         return false;

@@ -1,6 +1,6 @@
 -- `after_first_period` meets its contract.
 use Prim.Native.Nat.{ℕ, _+_, _*_, _/_, _^_, _≤_, _<_}
-use mathlib.Core.Path.{_≡_, ap, sym, subst}
+use mathlib.Core.Path.{sym, subst}
 use native.Mathlib.Nat.{pos-of-ne-zero, le-refl, le-trans, mul-le-mul-left, mul-div-le, le-div-iff-mul-le, div-le-self}
 use native.Mathlib.Omega.{arith}
 use borrow.Author.Needs.{needs}

@@ -1,10 +1,9 @@
 -- `first_reached` meets its contract. The loop's invariant: the answer is yes for `high`, and no for `low` unless that is 0.
-use Prim.Native.Nat.{ℕ, _+_, _-_, _/_, _≤_, _<_}
-use mathlib.Core.Path.{_≡_}
+use Prim.Native.Nat.{_-_, _≤_, _<_}
 use native.Mathlib.Omega.{arith}
 use borrow.Author.Tests.{not-true, not-false}
 use Rattle.constants.specs.Residues.{Reached}
-use Rattle.constants.proofs.Euclid.{answer-yes, answer-no}
+use Rattle.constants.proofs.Decides.{decides-yes, decides-no}
 use Rattle.constants.proofs.Sides.{reached-le, small-le}
 use Rattle.constants.proofs.search.first_reached.Statement.{statement}
 use Rattle.constants.proofs.search.first_reached.Tie as tie
@@ -24,7 +23,7 @@ returns c =
     let f = c .before .reached in
     record {
       most = omega arith;
-      none = λ _. answer-no (f .result) (not-true (f .result) (c .if1 .taken)) (f .ensures);
+      none = λ _. decides-no (f .result) (not-true (f .result) (c .if1 .taken)) (f .ensures);
       good = λ h. absurd (omega arith);
       before = λ i _ h. absurd (omega arith);
     }
@@ -32,7 +31,7 @@ returns c =
 loop-holds : tie.Need-loop-holds Inv-loop μ-loop
 loop-holds c =
     let f = c .before .reached in
-    (omega arith, c .before .before .pre .2, λ h. absurd (omega arith), answer-yes (f .result) (not-false (f .result) (c .if1 .left)) (f .ensures))
+    (omega arith, c .before .before .pre .2, λ h. absurd (omega arith), decides-yes (f .result) (not-false (f .result) (c .if1 .left)) (f .ensures))
 
 add-loop : tie.Need-add-loop Inv-loop μ-loop
 add-loop c = omega arith
@@ -55,7 +54,7 @@ loop-again : tie.Need-loop-again Inv-loop μ-loop
 loop-again c =
     let i = c .before .before .before .loop .inv in
     let f = c .before .reached2 in
-    (omega arith, omega arith, i .2, answer-yes (f .result) (c .if2 .taken) (f .ensures))
+    (omega arith, omega arith, i .2, decides-yes (f .result) (c .if2 .taken) (f .ensures))
 
 loop-less-2 : tie.Need-loop-less-2 Inv-loop μ-loop
 loop-less-2 c = omega arith
@@ -64,7 +63,7 @@ loop-again-2 : tie.Need-loop-again-2 Inv-loop μ-loop
 loop-again-2 c =
     let i = c .before .before .before .loop .inv in
     let f = c .before .reached2 in
-    (omega arith, omega arith, λ _. answer-no (f .result) (c .if2 .left) (f .ensures), i .3)
+    (omega arith, omega arith, λ _. decides-no (f .result) (c .if2 .left) (f .ensures), i .3)
 
 returns-2 : tie.Need-returns-2 Inv-loop μ-loop
 returns-2 c =

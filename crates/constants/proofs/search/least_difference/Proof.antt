@@ -1,8 +1,6 @@
 -- `least_difference` meets its contract: a difference stands in the first period, or on the side that gains.
-use Prim.Native.Nat.{ℕ, _*_, _%_, _^_, _≤_, _<_}
-use mathlib.Core.Bool.{not}
-use mathlib.Core.Path.{_≡_, ap, sym}
-use native.Mathlib.Nat.{min-le-left}
+use Prim.Native.Nat.{ℕ, _*_, _%_, _^_, _<_}
+use mathlib.Core.Path.{_≡_, ap}
 use native.Mathlib.Omega.{arith}
 use borrow.Author.Needs.{needs}
 use Rattle.constants.specs.declared.limits.Constants.{Constants}

@@ -1,9 +1,7 @@
 -- `reached` meets its contract.
-use Prim.Native.Nat.{_*_, _^_, _≤_, _<_}
 use native.Mathlib.Nat.{le-refl}
 use native.Mathlib.Omega.{arith}
 use borrow.Author.Needs.{needs}
-use Rattle.constants.specs.Residues.{Small}
 use Rattle.constants.proofs.search.reached.Statement.{statement}
 use Rattle.constants.proofs.search.reached.Tie as tie
 

@@ -1,6 +1,6 @@
 -- `side_of` meets its contract.
 use Prim.Native.Nat.{_+_, _*_, _/_, _^_, _≤_}
-use mathlib.Core.Path.{_≡_, refl}
+use mathlib.Core.Path.{refl}
 use native.Mathlib.Nat.{div-le-self, mul-le-mul}
 use native.Mathlib.Omega.{arith}
 use borrow.Author.Needs.{needs}

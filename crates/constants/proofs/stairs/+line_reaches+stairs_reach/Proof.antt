@@ -1,8 +1,7 @@
 -- `line_reaches` and `stairs_reach` meet their contracts: each turn is a step of Euclid's algorithm, and the end falls.
-use Rattle.constants.proofs.Euclid.{fine, finer, less-run, next-sizes, line-one, line-none, line-at-last, line-no-step, line-found, line-next, stairs-one, stairs-too-low, stairs-last, stairs-no-step, stairs-found, stairs-next}
-use Prim.Native.Nat.{ℕ, _+_, _-_, _*_, _/_, _<_}
-use native.Mathlib.Nat.{pos-of-ne-zero, mod-lt}
-use mathlib.Core.Path.{_≡_}
+use Rattle.constants.proofs.Reaches.{fine, finer, next-sizes, line-one, line-none, line-at-last, line-no-step, line-found, line-next, stairs-one, stairs-too-low, stairs-last, stairs-no-step, stairs-found, stairs-next}
+use Prim.Native.Nat.{ℕ, _<_}
+use native.Mathlib.Nat.{mod-lt}
 use native.Mathlib.Omega.{arith}
 use borrow.Fn.Kinds.{In}
 use borrow.Fn.PlainCycle.{Measures, is, falls, and}
@@ -99,25 +98,19 @@ module _ (t : ℕ) where
   line-mul-if3-2 c =
       let s = c .before .before in
       let b = s .pre .1 in
-      let A' = s .args .slope - s .args .height * (s .args .rise / s .args .width) in
-      let e : s .args .slope ≡ A' + s .args .height * (s .args .rise / s .args .width) = omega arith in
-      omega (arith, fine b (c .before .if1 .left), less-run (s .args .slope) A' (s .args .end) _ e)
+      omega (arith, fine b (c .before .if1 .left))
 
   line-returns-3 : line-lts.Need-returns-3 (stairs-below t, stairs.Post) (line-at t) line.Post
   line-returns-3 c =
       let s = c .before .before .before in
       let b = s .pre .1 in
-      let A' = s .args .slope - s .args .height * (s .args .rise / s .args .width) in
-      let e : s .args .slope ≡ A' + s .args .height * (s .args .rise / s .args .width) = omega arith in
-      line-at-last b A' e (c .if3 .taken)
+      line-at-last b (c .before .if2 .left) (c .if3 .taken)
 
   line-returns-4 : line-lts.Need-returns-4 (stairs-below t, stairs.Post) (line-at t) line.Post
   line-returns-4 c =
       let s = c .before .before .before .before in
       let b = s .pre .1 in
-      let A' = s .args .slope - s .args .height * (s .args .rise / s .args .width) in
-      let e : s .args .slope ≡ A' + s .args .height * (s .args .rise / s .args .width) = omega arith in
-      line-no-step b A' e (λ h. let l = c .before .if3 .left in omega arith) (c .if4 .taken)
+      line-no-step b (c .before .before .if2 .left) (c .before .if3 .left) (c .if4 .taken)
 
   line-sub-back : line-lts.Need-sub-back (stairs-below t, stairs.Post) (line-at t) line.Post
   line-sub-back c = omega arith
@@ -129,33 +122,25 @@ module _ (t : ℕ) where
   line-div-gained c =
       let s = c .before .before .before .before in
       let b = s .pre .1 in
-      let A' = s .args .slope - s .args .height * (s .args .rise / s .args .width) in
-      let e : s .args .slope ≡ A' + s .args .height * (s .args .rise / s .args .width) = omega arith in
-      finer b A' e (c .if4 .left) .slope
+      finer b (c .before .before .if2 .left) (c .if4 .left) .slope
 
   line-mul-gained : line-lts.Need-mul-gained (stairs-below t, stairs.Post) (line-at t) line.Post
   line-mul-gained c =
       let s = c .before .before .before .before in
       let b = s .pre .1 in
-      let A' = s .args .slope - s .args .height * (s .args .rise / s .args .width) in
-      let e : s .args .slope ≡ A' + s .args .height * (s .args .rise / s .args .width) = omega arith in
-      omega (arith, fine b (c .before .before .before .if1 .left), less-run (s .args .slope) A' (s .args .end) _ e, finer b A' e (c .if4 .left))
+      omega (arith, fine b (c .before .before .before .if1 .left), finer b (c .before .before .if2 .left) (c .if4 .left))
 
   line-returns-5 : line-lts.Need-returns-5 (stairs-below t, stairs.Post) (line-at t) line.Post
   line-returns-5 c =
       let s = c .before .before .before .before .before in
       let b = s .pre .1 in
-      let A' = s .args .slope - s .args .height * (s .args .rise / s .args .width) in
-      let e : s .args .slope ≡ A' + s .args .height * (s .args .rise / s .args .width) = omega arith in
-      line-found b A' e (λ h. let l = c .before .before .if3 .left in omega arith) (c .before .if4 .left) (c .if5 .taken)
+      line-found b (c .before .before .before .if2 .left) (c .before .if4 .left) (c .if5 .taken)
 
   line-rem-stairs-reach : line-lts.Need-rem-stairs-reach (stairs-below t, stairs.Post) (line-at t) line.Post
   line-rem-stairs-reach c =
       let s = c .before .before .before .before .before in
       let b = s .pre .1 in
-      let A' = s .args .slope - s .args .height * (s .args .rise / s .args .width) in
-      let e : s .args .slope ≡ A' + s .args .height * (s .args .rise / s .args .width) = omega arith in
-      finer b A' e (c .before .if4 .left) .slope
+      finer b (c .before .before .before .if2 .left) (c .before .if4 .left) .slope
 
   line-sub-stairs-reach : line-lts.Need-sub-stairs-reach (stairs-below t, stairs.Post) (line-at t) line.Post
   line-sub-stairs-reach c = omega arith
@@ -164,17 +149,13 @@ module _ (t : ℕ) where
   line-stairs-reach-requires c κs =
       let s = c .before .before .before .before .before in
       let b = s .pre .1 in
-      let A' = s .args .slope - s .args .height * (s .args .rise / s .args .width) in
-      let e : s .args .slope ≡ A' + s .args .height * (s .args .rise / s .args .width) = omega arith in
-      (omega (arith, mod-lt (s .args .rise) {m = s .args .width} (omega (arith, b .start)), s .pre .0), next-sizes (s .args .end) (s .args .width) (s .args .rise) (s .args .start) (s .args .slope) A' (s .args .height) (s .args .lead) b e (pos-of-ne-zero (c .before .if4 .left)) _ (omega arith) (omega (arith, b .near)))
+      (omega (arith, mod-lt (s .args .rise) {m = s .args .width} (omega (arith, b .start)), s .pre .0), next-sizes b (c .before .before .before .if2 .left) (c .before .if4 .left) _ (omega arith) (omega (arith, b .near)))
 
   line-returns-6 : line-lts.Need-returns-6 (stairs-below t, stairs.Post) (line-at t) line.Post
   line-returns-6 c =
       let s = c .before .before .before .before .before .before in
       let b = s .pre .1 in
-      let A' = s .args .slope - s .args .height * (s .args .rise / s .args .width) in
-      let e : s .args .slope ≡ A' + s .args .height * (s .args .rise / s .args .width) = omega arith in
-      line-next b A' e (λ h. let l = c .before .before .before .if3 .left in omega arith) (c .before .before .if4 .left) _ (omega arith) (c .stairs-reach .result) (c .stairs-reach .ensures)
+      line-next b (c .before .before .before .before .if2 .left) (c .before .before .if4 .left) (c .before .before .before .if3 .left) _ (omega arith) (c .stairs-reach .result) (c .stairs-reach .ensures)
 
   stairs-returns : stairs-lts.Need-returns (line-below t, line.Post) (stairs-at t) stairs.Post
   stairs-returns c =
@@ -261,9 +242,7 @@ module _ (t : ℕ) where
   stairs-returns-4 c =
       let s = c .before .before .before .before in
       let b = s .pre .1 in
-      let A' = s .args .slope - s .args .height * (s .args .rise / s .args .width) in
-      let e : s .args .slope ≡ A' + s .args .height * (s .args .rise / s .args .width) = omega arith in
-      stairs-no-step b A' e (c .if4 .taken)
+      stairs-no-step b (c .before .if3 .left) (c .if4 .taken)
 
   stairs-sub-back : stairs-lts.Need-sub-back (line-below t, line.Post) (stairs-at t) stairs.Post
   stairs-sub-back c = omega arith
@@ -275,49 +254,37 @@ module _ (t : ℕ) where
   stairs-add-next c =
       let s = c .before .before .before .before in
       let b = s .pre .1 in
-      let A' = s .args .slope - s .args .height * (s .args .rise / s .args .width) in
-      let e : s .args .slope ≡ A' + s .args .height * (s .args .rise / s .args .width) = omega arith in
-      omega (arith, fine b (c .before .before .before .if1 .left), less-run (s .args .slope) A' (s .args .end) _ e, finer b A' e (c .if4 .left), c .before .before .if2 .left, b .rise)
+      omega (arith, fine b (c .before .before .before .if1 .left), finer b (c .before .if3 .left) (c .if4 .left), c .before .before .if2 .left, b .rise)
 
   stairs-div-next : stairs-lts.Need-div-next (line-below t, line.Post) (stairs-at t) stairs.Post
   stairs-div-next c =
       let s = c .before .before .before .before in
       let b = s .pre .1 in
-      let A' = s .args .slope - s .args .height * (s .args .rise / s .args .width) in
-      let e : s .args .slope ≡ A' + s .args .height * (s .args .rise / s .args .width) = omega arith in
-      finer b A' e (c .if4 .left) .slope
+      finer b (c .before .if3 .left) (c .if4 .left) .slope
 
   stairs-mul-next : stairs-lts.Need-mul-next (line-below t, line.Post) (stairs-at t) stairs.Post
   stairs-mul-next c =
       let s = c .before .before .before .before in
       let b = s .pre .1 in
-      let A' = s .args .slope - s .args .height * (s .args .rise / s .args .width) in
-      let e : s .args .slope ≡ A' + s .args .height * (s .args .rise / s .args .width) = omega arith in
-      omega (arith, fine b (c .before .before .before .if1 .left), less-run (s .args .slope) A' (s .args .end) _ e, finer b A' e (c .if4 .left), c .before .before .if2 .left, b .rise)
+      omega (arith, fine b (c .before .before .before .if1 .left), finer b (c .before .if3 .left) (c .if4 .left), c .before .before .if2 .left, b .rise)
 
   stairs-add-next-2 : stairs-lts.Need-add-next-2 (line-below t, line.Post) (stairs-at t) stairs.Post
   stairs-add-next-2 c =
       let s = c .before .before .before .before in
       let b = s .pre .1 in
-      let A' = s .args .slope - s .args .height * (s .args .rise / s .args .width) in
-      let e : s .args .slope ≡ A' + s .args .height * (s .args .rise / s .args .width) = omega arith in
-      omega (arith, fine b (c .before .before .before .if1 .left), less-run (s .args .slope) A' (s .args .end) _ e, finer b A' e (c .if4 .left), c .before .before .if2 .left, b .rise)
+      omega (arith, fine b (c .before .before .before .if1 .left), finer b (c .before .if3 .left) (c .if4 .left), c .before .before .if2 .left, b .rise)
 
   stairs-returns-5 : stairs-lts.Need-returns-5 (line-below t, line.Post) (stairs-at t) stairs.Post
   stairs-returns-5 c =
       let s = c .before .before .before .before .before in
       let b = s .pre .1 in
-      let A' = s .args .slope - s .args .height * (s .args .rise / s .args .width) in
-      let e : s .args .slope ≡ A' + s .args .height * (s .args .rise / s .args .width) = omega arith in
-      stairs-found b A' e (c .before .if4 .left) (c .if5 .taken)
+      stairs-found b (c .before .before .if3 .left) (c .before .if4 .left) (c .if5 .taken)
 
   stairs-rem-line-reaches : stairs-lts.Need-rem-line-reaches (line-below t, line.Post) (stairs-at t) stairs.Post
   stairs-rem-line-reaches c =
       let s = c .before .before .before .before .before in
       let b = s .pre .1 in
-      let A' = s .args .slope - s .args .height * (s .args .rise / s .args .width) in
-      let e : s .args .slope ≡ A' + s .args .height * (s .args .rise / s .args .width) = omega arith in
-      finer b A' e (c .before .if4 .left) .slope
+      finer b (c .before .before .if3 .left) (c .before .if4 .left) .slope
 
   stairs-sub-line-reaches : stairs-lts.Need-sub-line-reaches (line-below t, line.Post) (stairs-at t) stairs.Post
   stairs-sub-line-reaches c = omega arith
@@ -326,17 +293,13 @@ module _ (t : ℕ) where
   stairs-line-reaches-requires c κs =
       let s = c .before .before .before .before .before in
       let b = s .pre .1 in
-      let A' = s .args .slope - s .args .height * (s .args .rise / s .args .width) in
-      let e : s .args .slope ≡ A' + s .args .height * (s .args .rise / s .args .width) = omega arith in
-      (omega (arith, mod-lt (s .args .rise) {m = s .args .width} (omega (arith, b .start)), s .pre .0), next-sizes (s .args .end) (s .args .width) (s .args .rise) (s .args .start) (s .args .slope) A' (s .args .height) (s .args .lead) b e (pos-of-ne-zero (c .before .if4 .left)) _ (omega arith) (omega (arith, fine b (c .before .before .before .before .if1 .left), less-run (s .args .slope) A' (s .args .end) _ e, finer b A' e (c .before .if4 .left), c .before .before .before .if2 .left, b .rise)))
+      (omega (arith, mod-lt (s .args .rise) {m = s .args .width} (omega (arith, b .start)), s .pre .0), next-sizes b (c .before .before .if3 .left) (c .before .if4 .left) _ (omega arith) (omega (arith, fine b (c .before .before .before .before .if1 .left), finer b (c .before .before .if3 .left) (c .before .if4 .left), c .before .before .before .if2 .left, b .rise)))
 
   stairs-returns-6 : stairs-lts.Need-returns-6 (line-below t, line.Post) (stairs-at t) stairs.Post
   stairs-returns-6 c =
       let s = c .before .before .before .before .before .before in
       let b = s .pre .1 in
-      let A' = s .args .slope - s .args .height * (s .args .rise / s .args .width) in
-      let e : s .args .slope ≡ A' + s .args .height * (s .args .rise / s .args .width) = omega arith in
-      stairs-next b A' e (c .before .before .if4 .left) _ (omega arith) (c .line-reaches .result) (c .line-reaches .ensures)
+      stairs-next b (c .before .before .before .if3 .left) (c .before .before .if4 .left) _ (omega arith) (c .line-reaches .result) (c .line-reaches .ensures)
 
 pub +line-reaches+stairs-reach-spec : {M : Type 1} → statement M
 +line-reaches+stairs-reach-spec =
