@@ -1,0 +1,73 @@
+-- The calls' answers, from what the test of the limits and the search tell.
+use Prim.Native.Nat.{ℕ, _≤_, _<_}
+use mathlib.Core.Path.{_≡_, sym, ap, _∙_}
+use mathlib.Core.Bool.{Bool, true, false, _||_}
+use native.Mathlib.Decide.{decLt}
+use native.Mathlib.Omega.{arith}
+use borrow.Author.Tests.{lt-ltb, le-ltb}
+use lib.IntN.{ℤ, pos, natAbs}
+use Rattle.refusal.specs.Outcome.{value, refused, refusedAt}
+use Rattle.constants.specs.declared.limits.Constants.{Constants}
+use Rattle.constants.specs.Difference.{apart, differs}
+use Rattle.constants.specs.Least.{at, none, leastBelow}
+use Rattle.constants.specs.Limits.{outsideLimits, endOutside, boundOutside}
+use Rattle.constants.specs.Answers.{difference, searchAnswer, claimed, claimAnswer}
+use Rattle.constants.specs.Allowed.{Passed, exact, device, differsAt}
+use Rattle.constants.specs.Residues.{Differs, IsLeast}
+use Rattle.constants.proofs.Least.{NoneBelow, found}
+
+-- numbers outside their limits
+module _ (a b d m c k t end : ℤ) where
+  pub search-refused : (outsideLimits a b d m c k t || endOutside end) ≡ true → refused 9 ≡ searchAnswer a b d m c k t end
+  unfolding searchAnswer
+  search-refused h = rw h
+
+  pub claim-refused : (outsideLimits a b d m c k t || boundOutside end) ≡ true → refused 9 ≡ claimAnswer a b d m c k t end
+  unfolding claimAnswer
+  claim-refused h = rw h
+
+-- numbers within them, and the search's result r below the end n
+module _ {a b d m c k t end last : ℤ} {q : Constants} {n : ℕ} (p : Passed a b d m c k t end last q n) where
+  differs-is : (i : ℕ) → differsAt q i ≡ difference a b d m c k t i
+  unfolding difference
+  differs-is i = ap (λ (q : Constants). differsAt q i) (p .constants)
+
+  module _ {r : ℕ} (h : IsLeast (Differs q) n r) where
+    none-before : NoneBelow (difference a b d m c k t) r
+    unfolding differs
+    none-before i lt = sym (differs-is i) ∙ go (decLt (q .t) (apart (exact q i) (device q i)))
+      where
+        go : Dec (Differs q i) → differsAt q i ≡ false
+        go (yes y) = absurd (h .before i lt y)
+        go (no x) = le-ltb (q .t) (apart (exact q i) (device q i)) (omega arith)
+
+    least-at : r < n → leastBelow (difference a b d m c k t) (natAbs end) ≡ at r
+    unfolding differs
+    least-at lt =
+        found (difference a b d m c k t) (natAbs end) (at r)
+        (record { below = omega (arith, p .end-is); passes = sym (differs-is r) ∙ lt-ltb _ _ (h .found lt); least = none-before })
+
+    least-none : n ≤ r → leastBelow (difference a b d m c k t) (natAbs end) ≡ none
+    least-none le = found (difference a b d m c k t) (natAbs end) none (λ i lt. none-before i (omega (arith, p .end-is)))
+
+-- the search
+module _ {a b d m c k t end : ℤ} {q : Constants} {n : ℕ} (p : Passed a b d m c k t end (pos 4294967295) q n) {r : ℕ} (h : IsLeast (Differs q) n r) where
+  pub search-at : r < n → value (at r) ≡ searchAnswer a b d m c k t end
+  unfolding searchAnswer
+  search-at lt = rw (p .passed) (ap value (sym (least-at p h lt)))
+
+  pub search-none : n ≤ r → value none ≡ searchAnswer a b d m c k t end
+  unfolding searchAnswer
+  search-none le = rw (p .passed) (ap value (sym (least-none p h le)))
+
+-- the claim
+module _ {a b d m c k t bound : ℤ} {q : Constants} {n : ℕ} (p : Passed a b d m c k t bound (pos 4294967294) q n) {r : ℕ} (h : IsLeast (Differs q) n r) where
+  pub claim-below : r < n → refusedAt 10 r ≡ claimAnswer a b d m c k t bound
+  unfolding claimAnswer
+  claim-below lt = rw (p .passed, least-at p h lt)
+
+  pub claim-here : n ≤ r → {here : Bool} → here ≡ differsAt q n → claimed none here ≡ claimAnswer a b d m c k t bound
+  unfolding claimAnswer
+  claim-here le {here} e =
+      let i : here ≡ difference a b d m c k t (natAbs bound) = e ∙ differs-is p n ∙ ap (difference a b d m c k t) (p .end-is) in
+      rw (p .passed, least-none p h le, ← i)

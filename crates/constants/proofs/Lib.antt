@@ -1,0 +1,12 @@
+pub mod Arithmetic
+pub mod Bounds
+pub mod Decides
+pub mod Euclid
+pub mod Reaches
+pub mod Gaps
+pub mod Sides
+pub mod Signed
+pub mod Least
+pub mod Answers
+pub mod Laws
+pub mod Examples

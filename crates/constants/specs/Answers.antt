@@ -1,0 +1,53 @@
+-- What the two calls answer, in document 01's numbers: "Constants on trial" and "The numbered refusals".
+use Prim.Native.Nat.{ℕ}
+use lib.IntN.{ℤ, natAbs}
+use mathlib.Core.Bool.{Bool, true, false, cond, _||_}
+use Rattle.refusal.specs.Outcome.{Outcome, value, refused, refusedAt}
+use Rattle.refusal.specs.Numbers.{refusalNumber}
+use Rattle.constants.specs.declared.SearchAnswer.{SearchAnswer}
+use Rattle.constants.specs.declared.SearchAnswer.the-variants as search
+use Rattle.constants.specs.declared.ClaimAnswer.{ClaimAnswer}
+use Rattle.constants.specs.declared.ClaimAnswer.the-variants as claim
+use Rattle.constants.specs.Difference.{exactQuotient, deviceQuotient, differs}
+use Rattle.constants.specs.Least.{Found, at, none, leastBelow}
+use Rattle.constants.specs.Limits.{outsideLimits, endOutside, boundOutside}
+
+-- a difference at n, for allowed constants, none of which is below zero
+unfoldable pub difference : (a b d m c k t : ℤ) → (n : ℕ) → Bool
+difference a b d m c k t =
+    differs (natAbs t) (exactQuotient (natAbs a) (natAbs b) (natAbs d)) (deviceQuotient (natAbs m) (natAbs c) (natAbs k))
+
+-- the search: 9, or "the least n below L with a difference, or 'none below L'"
+unfoldable pub searchAnswer : (a b d m c k t end : ℤ) → Outcome Found
+searchAnswer a b d m c k t end =
+    cond (outsideLimits a b d m c k t || endOutside end)
+    (refused 9)
+    (value (leastBelow (difference a b d m c k t) (natAbs end)))
+
+pub data Accepted : Type 0 where
+  accepted : Accepted
+
+-- the claim, from the least difference below B and whether there is one at B: 10 with the least n if "a difference stands
+-- below B", accepted "exactly if the least difference is at B", 11 if there is "no difference at or below B"
+abbrev pub claimed : (below : Found) (here : Bool) → Outcome Accepted
+claimed (at n) here = refusedAt 10 n
+claimed none true = value accepted
+claimed none false = refused 11
+
+-- the claim: 9, then 10 or 11, or accepted
+unfoldable pub claimAnswer : (a b d m c k t bound : ℤ) → Outcome Accepted
+claimAnswer a b d m c k t bound =
+    cond (outsideLimits a b d m c k t || boundOutside bound)
+    (refused 9)
+    (claimed (leastBelow (difference a b d m c k t) (natAbs bound)) (difference a b d m c k t (natAbs bound)))
+
+-- document 01's number and values for each case of the code's answers
+abbrev pub searchOutcome : SearchAnswer → Outcome Found
+searchOutcome (search.At n) = value (at n)
+searchOutcome search.NoneBelow = value none
+searchOutcome (search.Refused why) = refused (refusalNumber why)
+
+abbrev pub claimOutcome : ClaimAnswer → Outcome Accepted
+claimOutcome claim.Accepted = value accepted
+claimOutcome (claim.Refused why) = refused (refusalNumber why)
+claimOutcome (claim.RefusedAt why n) = refusedAt (refusalNumber why) n

@@ -1,0 +1,9 @@
+-- What a reader has to believe: the answers, and what they are made of.
+pub mod Difference
+pub mod Least
+pub mod Limits
+pub mod Answers
+-- What only the proofs need.
+pub mod Allowed
+pub mod Stairs
+pub mod Residues
