@@ -120,8 +120,8 @@ module _ {z : ℤ} (f : SFits w64 z) (h : ltZ (read z) (pos 0) ≡ true) where
   complement-small = subst (λ (y : ℤ). natAbs y < 2 ^ 63) (sym (toZ-ofZ complement-fits ∙ complement)) (f .sfits)
 
 -- a number that is not below zero, cast to u64
-pub natural-cast : {z : ℤ} → SFits w64 z → ltZ (read z) (pos 0) ≡ false → T (nonNeg (read z)) × Fits w64 (natAbs (read z))
-natural-cast {z} f h = subst (λ (y : ℤ). T (nonNeg y) × Fits w64 (natAbs y)) (sym (toZ-ofZ f)) (go z (f .sfits) (sym (ap (λ (y : ℤ). ltZ y (pos 0)) (toZ-ofZ f)) ∙ h))
+pub not-negative-cast : {z : ℤ} → SFits w64 z → ltZ (read z) (pos 0) ≡ false → T (nonNeg (read z)) × Fits w64 (natAbs (read z))
+not-negative-cast {z} f h = subst (λ (y : ℤ). T (nonNeg y) × Fits w64 (natAbs y)) (sym (toZ-ofZ f)) (go z (f .sfits) (sym (ap (λ (y : ℤ). ltZ y (pos 0)) (toZ-ofZ f)) ∙ h))
   where
     go : (z : ℤ) → mag z < 2 ^ 63 → ltZ z (pos 0) ≡ false → T (nonNeg z) × Fits w64 (natAbs z)
     go (pos a) l h = (tt, record { fits = omega arith })

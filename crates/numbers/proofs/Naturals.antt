@@ -2,6 +2,7 @@
 use Prim.Native.Nat.{ℕ, _≤_}
 use mathlib.Core.Path.{_≡_, refl, _∙_, subst}
 use mathlib.Core.Bool.{true, false}
+use native.Mathlib.Omega.{arith}
 use lib.IntN.{ℤ, pos, negsuc, natAbs}
 use lib.Signed.{nonNeg}
 use lib.Dec.{T}
@@ -28,4 +29,6 @@ natural first last (negsuc n) h = no-both true refl h
 
 -- what the cast of such an i64 to u64 asks
 pub natural-cast : {first last : ℕ} {z : ℤ} → SFits w64 z → Natural first last z → T (nonNeg (read z)) × Fits w64 (natAbs (read z))
-natural-cast {z = z} f t = cast-pos (natAbs z) (subst (λ (z : ℤ). SFits w64 z) (t .is) f .sfits) (toZ-ofZ f ∙ t .is)
+natural-cast {z = z} f t =
+    let l = subst (λ (z : ℤ). SFits w64 z) (t .is) f .sfits in
+    cast-pos w64 (natAbs z) (omega arith) (toZ-ofZ f ∙ t .is)

@@ -1,4 +1,4 @@
-use Rattle.numbers.proofs.Machine.{natural-cast}
+use Rattle.numbers.proofs.Machine.{not-negative-cast}
 use borrow.Author.Needs.{needs}
 use Rattle.dates.proofs.natural.Statement.{statement}
 use Rattle.dates.proofs.natural.Tie as tie
@@ -13,7 +13,7 @@ returns : tie.Need-returns
 returns c = search needs
 
 cast-print-decimal : tie.Need-cast-print-decimal
-cast-print-decimal c = natural-cast (c .before .fits .n) (c .if1 .left)
+cast-print-decimal c = not-negative-cast (c .before .fits .n) (c .if1 .left)
 
 print-decimal-requires : tie.Need-print-decimal-requires
 print-decimal-requires c κs = search needs

@@ -1,4 +1,4 @@
-use Rattle.numbers.proofs.Machine.{complement-fits, complement-cast, complement-small, natural-cast}
+use Rattle.numbers.proofs.Machine.{complement-fits, complement-cast, complement-small, not-negative-cast}
 use native.Mathlib.Omega.{arith}
 use borrow.Author.Needs.{needs}
 use Rattle.worked_examples.proofs.show.number.Statement.{statement}
@@ -23,7 +23,7 @@ natural-requires : tie.Need-natural-requires
 natural-requires c κs = search needs
 
 cast-natural-2 : tie.Need-cast-natural-2
-cast-natural-2 c = natural-cast (c .before .fits .n) (c .if1 .left)
+cast-natural-2 c = not-negative-cast (c .before .fits .n) (c .if1 .left)
 
 natural-requires-2 : tie.Need-natural-requires-2
 natural-requires-2 c κs = search needs
