@@ -9,4 +9,3 @@ pub mod Signed
 pub mod Least
 pub mod Answers
 pub mod Laws
-pub mod Examples

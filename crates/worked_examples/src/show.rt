@@ -18,7 +18,7 @@ pub fn number(n: i64) {
     }
 }
 
-fn natural(n: u64) {
+pub fn natural(n: u64) {
     io::print_decimal(libc::STDOUT_FILENO, n);
 }
 
