@@ -1,0 +1,3 @@
+pub mod Copy
+pub mod Spelling
+pub mod Positions

@@ -1,0 +1,4 @@
+pub mod Digits
+pub mod Written
+pub mod Webvtt
+pub mod Pairs
