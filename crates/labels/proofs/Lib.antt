@@ -1,3 +1,6 @@
 pub mod Copy
+pub mod Decimal
+pub mod Shapes
+pub mod Reading
 pub mod Spelling
 pub mod Positions

@@ -7,6 +7,8 @@
 use refusal::Refusal;
 
 mod buffer;
+mod digits;
+pub mod rfc3339;
 pub mod webvtt;
 
 pub enum WriteAnswer {
