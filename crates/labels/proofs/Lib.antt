@@ -4,3 +4,5 @@ pub mod Shapes
 pub mod Reading
 pub mod Spelling
 pub mod Positions
+pub mod Texts
+pub mod Laws

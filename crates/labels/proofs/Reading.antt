@@ -36,8 +36,8 @@ module _ (decimals : ℕ) (part : List ℕ) (l : length part ≡ 11 + decimals) 
       ∙ ap (λ n. fits (digits 0 decimals) (take n (drop 10 part)) && fits (90 ∷ []) (drop n (drop 10 part))) (length-digits 0 decimals)
       ∙ ap₂ (λ s t. fits s (take decimals (drop 10 part)) && t) (zeros decimals) last-mark
 
-  pub time-fits : fits (timeShape decimals) part ≡ fits timeHead (take 10 part) && (fits (replicate decimals 48) (take decimals (drop 10 part)) && eqb (getD part (10 + decimals) 0) 90)
-  time-fits = fits-append timeHead (digits 0 decimals ++ 90 ∷ []) part ∙ ap (λ t. fits timeHead (take 10 part) && t) all-decimals
+  pub time-by-parts : fits (timeShape decimals) part ≡ fits timeHead (take 10 part) && (fits (replicate decimals 48) (take decimals (drop 10 part)) && eqb (getD part (10 + decimals) 0) 90)
+  time-by-parts = fits-append timeHead (digits 0 decimals ++ 90 ∷ []) part ∙ ap (λ t. fits timeHead (take 10 part) && t) all-decimals
 
 -- the zeros of the code
 pub some-zeros : (count most : ℕ) → count ≤ most → _≡_ {A = List ℕ} (take count (replicate most 48)) (replicate count 48)

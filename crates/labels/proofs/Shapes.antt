@@ -1,5 +1,5 @@
 -- Texts of one shape.
-use Prim.Native.Nat.{ℕ, zero, suc, _+_, _≤_, _<_}
+use Prim.Native.Nat.{ℕ, zero, suc, _+_, _/_, _%_, _≤_, _<_}
 use mathlib.Core.Path.{_≡_, refl, sym, ap, ap₂, _∙_}
 use mathlib.Core.Bool.{Bool, true, false, _&&_}
 use mathlib.Core.List.{List, [], _∷_, _++_}
@@ -12,7 +12,7 @@ use lib.ListN.{length, getD, take, drop, replicate, drop-of-length-le, take-appe
 use lib.Seq.{drop-cons, drop-drop, length-take-le}
 use Rattle.numbers.proofs.Integers.{no-both}
 use Rattle.labels.specs.Digits.{digits, number, isDigit, fitsOne, fits}
-use Rattle.labels.proofs.Decimal.{and-left, and-right, allDigits, digits-number, length-digits}
+use Rattle.labels.proofs.Decimal.{and-left, and-right, is-digit, allDigits, digits-number, length-digits}
 
 and-no : (a : Bool) → a && false ≡ false
 and-no true = refl
@@ -90,3 +90,21 @@ module _ (text : List ℕ) (i : ℕ) (shape : List ℕ) where
           let r : drop (i + 1) text ≡ bs = sym (drop-drop 1 i text) ∙ ap (drop 1) e in
           let f = rw m at h in
           (ap₂ _∷_ (eqb-true b mark (and-left (eqb b mark) (fits shape bs) f)) (sym r), ap (fits shape) r ∙ and-right (eqb b mark) (fits shape bs) f)
+
+-- ---- texts that fit
+
+pub fits-both : (a b x y : List ℕ) → fits a x ≡ true → fits b y ≡ true → fits (a ++ b) (x ++ y) ≡ true
+fits-both [] b [] y h k = k
+fits-both [] b (t ∷ x) y h k = no-both false h refl
+fits-both (s ∷ a) b [] y h k = no-both false h refl
+fits-both (s ∷ a) b (t ∷ x) y h k =
+    ap₂ _&&_ (and-left (fitsOne s t) (fits a x) h) (fits-both a b x y (and-right (fitsOne s t) (fits a x) h) k)
+
+pub digits-fit : (n count : ℕ) → fits (digits 0 count) (digits n count) ≡ true
+digits-fit n zero = refl
+digits-fit n (suc count) =
+    fits-both (digits 0 count) (48 ∷ []) (digits (n / 10) count) ((48 + n % 10) ∷ []) (digits-fit (n / 10) count) (ap (λ t. t && true) (is-digit n))
+
+pub fits-nothing : (text : List ℕ) → fits [] text ≡ true → text ≡ []
+fits-nothing [] h = refl
+fits-nothing (b ∷ bs) h = no-both false h refl

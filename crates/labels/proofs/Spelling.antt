@@ -37,10 +37,10 @@ five-digits n h =
     cc (place-1000 n, place-100 n, place-10 n)
 
 -- the seconds and milliseconds of an hour's milliseconds
-within-hour : (n : ℕ) → n % 3600000 % 60000 ≡ n % 60000
+pub within-hour : (n : ℕ) → n % 3600000 % 60000 ≡ n % 60000
 within-hour n = omega arith
 
-within-hour-ms : (n : ℕ) → n % 3600000 % 1000 ≡ n % 1000
+pub within-hour-ms : (n : ℕ) → n % 3600000 % 1000 ≡ n % 1000
 within-hour-ms n = omega arith
 
 module _ (n : ℕ) (last : n < 360000000000) where

@@ -6,7 +6,7 @@ use borrow.Author.Tests.{not-true, not-false}
 use lib.ListN.{take, drop, replicate}
 use lib.Seq.{length-take-le}
 use Rattle.labels.specs.Digits.{fits}
-use Rattle.labels.proofs.Reading.{timeHead, time-fits, some-zeros}
+use Rattle.labels.proofs.Reading.{timeHead, time-by-parts, some-zeros}
 use borrow.Author.Needs.{needs}
 use Rattle.labels.proofs.rfc3339.is_time.Statement.{statement}
 use Rattle.labels.proofs.rfc3339.is_time.Tie as tie
@@ -29,7 +29,7 @@ fits-requires c κs = search needs
 returns : tie.Need-returns
 returns c = 
     let s = c .before .before .before .before .before in
-    let t = time-fits (s .args .decimals) (s .args .part .now) (s .pre .1) in
+    let t = time-by-parts (s .args .decimals) (s .args .part .now) (s .pre .1) in
     sym (t ∙ rw (sym (c .before .fits2 .ensures) ∙ not-true _ (c .if1 .taken)))
 
 array-share-prefix-zeros : tie.Need-array-share-prefix-zeros
@@ -53,7 +53,7 @@ fits-requires-2 c κs = search needs
 returns-2 : tie.Need-returns-2
 returns-2 c = 
     let s = c .before .before .before .before .before .before .before .before .before in
-    let t = time-fits (s .args .decimals) (s .args .part .now) (s .pre .1) in
+    let t = time-by-parts (s .args .decimals) (s .args .part .now) (s .pre .1) in
     let a : fits timeHead (take 10 (s .args .part .now)) ≡ true = sym (c .before .before .before .before .before .fits2 .ensures) ∙ not-false _ (c .before .before .before .before .if1 .left) in
     let n : 10 + s .args .decimals - 10 ≡ s .args .decimals = omega arith in
     let b : fits (replicate (s .args .decimals) 48) (take (s .args .decimals) (drop 10 (s .args .part .now))) ≡ false =
@@ -66,7 +66,7 @@ shared-slice-read-result c = search needs
 returns-3 : tie.Need-returns-3
 returns-3 c = 
     let s = c .before .before .before .before .before .before .before .before .before .before in
-    let t = time-fits (s .args .decimals) (s .args .part .now) (s .pre .1) in
+    let t = time-by-parts (s .args .decimals) (s .args .part .now) (s .pre .1) in
     let a : fits timeHead (take 10 (s .args .part .now)) ≡ true = sym (c .before .before .before .before .before .before .fits2 .ensures) ∙ not-false _ (c .before .before .before .before .before .if1 .left) in
     let n : 10 + s .args .decimals - 10 ≡ s .args .decimals = omega arith in
     let b : fits (replicate (s .args .decimals) 48) (take (s .args .decimals) (drop 10 (s .args .part .now))) ≡ true =
