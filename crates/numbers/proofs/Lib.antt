@@ -1,3 +1,4 @@
 pub mod Integers
 pub mod Floor
 pub mod Machine
+pub mod Mended
