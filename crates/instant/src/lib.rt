@@ -19,12 +19,11 @@ mod floored;
 mod units;
 
 ghost use mathlib.Core.Path.{_≡_};
-ghost use Prim.Native.Nat.{_<_};
+ghost use Prim.Native.Nat.{_+_, _*_, _≤_, _<_};
 ghost use mathlib.Core.List.{map};
 ghost use lib.ListN.{length};
-ghost use lib.IntN.{pos};
 ghost use Rattle.numbers.specs.Range as range;
-ghost use Rattle.instant.specs.Units.{perDay};
+ghost use Rattle.instant.specs.Units.{perSecond, perMinute, perHour, perDay};
 ghost use Rattle.instant.specs.Instant.{dayOf, fieldsAt};
 ghost use Rattle.instant.specs.Answers.{numberOutcome, fieldsOutcome, indexOutcome, dayAnswer, fieldsAnswer, joinAnswer, firstBad, indexAnswer, indexDays};
 ghost use Rattle.instant.specs.Checked.{timeAnswer};
@@ -87,10 +86,10 @@ fn fields_at(date: Date, time: u64) -> Fields
         year: date.year,
         month: date.month,
         day: date.day,
-        hour: (time / (PER_HOUR as u64)) as i64,
-        minute: (time % (PER_HOUR as u64) / (PER_MINUTE as u64)) as i64,
-        second: (time % (PER_MINUTE as u64) / (PER_SECOND as u64)) as i64,
-        millisecond: (time % (PER_SECOND as u64)) as i64,
+        hour: (time / PER_HOUR) as i64,
+        minute: (time % PER_HOUR / PER_MINUTE) as i64,
+        second: (time % PER_MINUTE / PER_SECOND) as i64,
+        millisecond: (time % PER_SECOND) as i64,
     }
 }
 
@@ -130,10 +129,19 @@ fn join_time(hour: i64, minute: i64, second: i64, millisecond: i64) -> NumberAns
     if outside(0, 59, second) {
         return NumberAnswer::Refused(Refusal::TimeOutOfRange);
     }
-    if outside(0, PER_SECOND - 1, millisecond) {
+    if outside(0, PER_SECOND as i64 - 1, millisecond) {
         return NumberAnswer::Refused(Refusal::TimeOutOfRange);
     }
-    NumberAnswer::Value(hour * PER_HOUR + minute * PER_MINUTE + second * PER_SECOND + millisecond)
+    NumberAnswer::Value(
+        time_of(hour as u64, minute as u64, second as u64, millisecond as u64) as i64,
+    )
+}
+
+fn time_of(hour: u64, minute: u64, second: u64, millisecond: u64) -> u64
+    requires { ⌜ (hour ≤ 23) × ((minute ≤ 59) × ((second ≤ 59) × (millisecond < perSecond))) ⌝ }
+    ensures { λ r. ⌜ (r ≡ hour * perHour + minute * perMinute + second * perSecond + millisecond) × (r < perDay) ⌝ }
+{
+    hour * PER_HOUR + minute * PER_MINUTE + second * PER_SECOND + millisecond
 }
 
 // Writes the day count of each instant, and answers how many; refused, it writes nothing.
