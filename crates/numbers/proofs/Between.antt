@@ -3,15 +3,15 @@ use Prim.Native.Nat.{ℕ, _≤_, _<_, _^_}
 use mathlib.Core.Path.{_≡_, refl, sym, ap, _∙_, subst}
 use mathlib.Core.Bool.{Bool, true, false}
 use native.Mathlib.Omega.{arith}
-use lib.IntN.{ℤ, pos, negsuc, natAbs}
+use lib.IntN.{ℤ, pos, negsuc, natAbs, _+ℤ_}
 use lib.Dec.{T}
 use lib.Signed.{ltZ, nonNeg}
-use borrow.Author.Tests.{ltb-false}
+use borrow.Author.Tests.{ltb-false, le-ltb}
 use mir.Syntax.{Width, w64}
 use mir.Val.{SFits, Fits}
 use mir.Facts.{toZ-ofZ}
 use Rattle.numbers.specs.Range.{outside}
-use Rattle.numbers.proofs.Integers.{no-both, outside-no}
+use Rattle.numbers.proofs.Integers.{no-both, outside-no, not-outside, lt-add}
 use Rattle.numbers.proofs.Machine.{read, cast-pos}
 
 -- the answer r of a test of a local, and what it was
@@ -43,3 +43,11 @@ module _ {k : ℕ} {z : ℤ} (f : SFits w64 z) (t : Within k z) where
 
   pub cast-within : k < 2 ^ 64 → T (nonNeg (read z)) × Fits w64 (natAbs (read z))
   cast-within h = let l = t .small in cast-pos w64 (natAbs z) (omega arith) (toZ-ofZ f ∙ t .is)
+
+-- numbers that lie in a range, as natural numbers and from any first number on
+pub inside-pos : (a b n : ℕ) → a ≤ n → n ≤ b → outside (pos a) (pos b) (pos n) ≡ false
+inside-pos a b n h k = not-outside (pos a) (pos b) (pos n) (le-ltb n a h) (le-ltb b n k)
+
+pub inside-from : (first : ℤ) (a b n : ℕ) → a ≤ n → n ≤ b → outside (first +ℤ pos a) (first +ℤ pos b) (first +ℤ pos n) ≡ false
+inside-from first a b n h k =
+    not-outside (first +ℤ pos a) (first +ℤ pos b) (first +ℤ pos n) (lt-add first n a ∙ le-ltb n a h) (lt-add first b n ∙ le-ltb b n k)
