@@ -5,4 +5,5 @@ pub mod Reading
 pub mod Spelling
 pub mod Positions
 pub mod Texts
+pub mod Instants
 pub mod Laws

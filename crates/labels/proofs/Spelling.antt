@@ -8,7 +8,8 @@ use borrow.Author.Tests.{lt-ltb, le-ltb}
 use lib.ListN.{take, drop}
 use Rattle.labels.specs.Digits.{digits}
 use Rattle.labels.specs.Webvtt.{afterHours, positionText}
-use Rattle.labels.specs.Pairs.{two, three, five, widestText}
+use Rattle.labels.specs.Rfc3339.{dateText, timeText}
+use Rattle.labels.specs.Pairs.{two, three, five, widestText, Narrow, spelledText}
 
 pub two-digits : (n : ℕ) → n < 100 → two n ≡ digits n 2
 two-digits n h =
@@ -35,6 +36,22 @@ five-digits n h =
     let a : n / 10000 ≡ n / 10 / 10 / 10 / 10 % 10 =
         rw (div-div-eq-div-mul n 10 10, div-div-eq-div-mul n 100 10, div-div-eq-div-mul n 1000 10) (omega arith) in
     cc (place-1000 n, place-100 n, place-10 n)
+
+four-digits : (n : ℕ) → n < 10000 → two (n / 100) ++ two (n % 100) ≡ digits n 4
+four-digits n h =
+    let a : n / 100 / 10 ≡ n / 10 / 10 / 10 % 10 = rw (div-div-eq-div-mul n 10 10, div-div-eq-div-mul n 100 10) (omega arith) in
+    let b : n / 100 % 10 ≡ n / 10 / 10 % 10 = rw (div-div-eq-div-mul n 10 10) in
+    let d : n % 100 % 10 ≡ n % 10 = omega arith in
+    cc (place-10 n)
+
+pub label-spelled : {year month day hour minute second millisecond : ℕ} → Narrow year month day hour minute second millisecond → spelledText year month day hour minute second millisecond ≡ dateText year month day ++ timeText 3 hour minute second millisecond
+label-spelled {year} {month} {day} {hour} {minute} {second} {millisecond} n =
+    ap₂ (λ a b. a ++ 45 ∷ b) (four-digits year (n .year-below))
+    (ap₂ (λ a b. a ++ 45 ∷ b) (two-digits month (n .month-below))
+    (ap₂ (λ a b. a ++ 84 ∷ b) (two-digits day (n .day-below))
+    (ap₂ (λ a b. a ++ 58 ∷ b) (two-digits hour (n .hour-below))
+    (ap₂ (λ a b. a ++ 58 ∷ b) (two-digits minute (n .minute-below))
+    (ap₂ (λ a b. a ++ 46 ∷ b ++ 90 ∷ []) (two-digits second (n .second-below)) (three-digits millisecond (n .millisecond-below)))))))
 
 -- the seconds and milliseconds of an hour's milliseconds
 pub within-hour : (n : ℕ) → n % 3600000 % 60000 ≡ n % 60000

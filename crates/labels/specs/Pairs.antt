@@ -1,8 +1,12 @@
 -- The texts as the code spells them and the parts of a label as the code reads them, for proofs and private contracts only: nobody has
 -- to believe them. They are shown equal to the labels in proofs/Spelling.antt and proofs/Reading.antt.
 use Prim.Native.Nat.{ℕ, _+_, _/_, _%_, _<_}
-use mathlib.Core.Bool.{cond}
+use mathlib.Core.Path.{_≡_}
+use mathlib.Core.Bool.{false, cond}
+use lib.IntN.{pos}
 use mathlib.Core.List.{List, [], _∷_, _++_}
+use Rattle.numbers.specs.Range.{outside}
+use Rattle.instant.specs.declared.Fields.{Fields}
 use Rattle.labels.specs.Digits.{numberAt, fits}
 use Rattle.labels.specs.Rfc3339.{timeShape}
 use Rattle.labels.specs.declared.rfc3339.Time.{Time}
@@ -32,6 +36,16 @@ pub record Narrow (year month day hour minute second millisecond : ℕ) : Type 0
   pub minute-below : minute < 100
   pub second-below : second < 100
   pub millisecond-below : millisecond < 1000
+
+-- the same of an instant's fields
+pub record NarrowFields (f : Fields) : Type 0 where
+  pub year-within : outside (pos 0) (pos 9999) (f .year) ≡ false
+  pub month-within : outside (pos 0) (pos 99) (f .month) ≡ false
+  pub day-within : outside (pos 0) (pos 99) (f .day) ≡ false
+  pub hour-within : outside (pos 0) (pos 99) (f .hour) ≡ false
+  pub minute-within : outside (pos 0) (pos 99) (f .minute) ≡ false
+  pub second-within : outside (pos 0) (pos 99) (f .second) ≡ false
+  pub millisecond-within : outside (pos 0) (pos 999) (f .millisecond) ≡ false
 
 abbrev pub spelledText : (year month day hour minute second millisecond : ℕ) → List ℕ
 spelledText year month day hour minute second millisecond =

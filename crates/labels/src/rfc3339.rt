@@ -3,15 +3,59 @@
 use crate::WriteAnswer;
 use crate::buffer;
 use crate::digits;
+use instant::Fields;
+use instant::FieldsAnswer;
+use instant::NumberAnswer;
 use refusal::Refusal;
 ghost use mathlib.Core.Path.{_≡_};
 ghost use Prim.Native.Nat.{_+_, _≤_};
+ghost use lib.IntN.{pos};
 ghost use lib.ListN.{length};
+ghost use Rattle.instant.specs.Answers.{joinAnswer};
 ghost use Rattle.labels.specs.Digits.{fits};
-ghost use Rattle.labels.specs.Rfc3339.{timeShape};
-ghost use Rattle.labels.specs.Pairs.{Narrow, spelledText, readTime};
+ghost use Rattle.labels.specs.Written.{writeOutcome, writeAnswer, writtenBuffer};
+ghost use Rattle.labels.specs.Rfc3339.{timeShape, labelText, instantLabel, readOutcome, readAnswer};
+ghost use Rattle.labels.specs.Pairs.{Narrow, NarrowFields, spelledText, readTime};
 
+// How many decimals the seconds have, and how many bytes a label has.
 const DECIMALS: usize = 3;
+
+const LENGTH: usize = 21 + DECIMALS;
+
+pub enum ReadAnswer {
+    Value(i64),
+    Refused(Refusal),
+}
+
+// Writes the label of an instant. 4 for an instant outside the range, then 7 for a buffer shorter than the label.
+pub fn write_instant(ms: i64, out: &mut [u8]) -> WriteAnswer
+    ensures answer { λ r. ⌜ writeOutcome r ≡ writeAnswer (instantLabel ms) (now (out .entry)) ⌝ }
+    ensures buffer { λ r. ⌜ now (out .exit) ≡ writtenBuffer (instantLabel ms) (now (out .entry)) ⌝ }
+{
+    match instant::split_instant(ms) {
+        FieldsAnswer::Value(fields) => {
+            let text = text_of(fields);
+            buffer::put(out, &text)
+        }
+        FieldsAnswer::Refused(r) => WriteAnswer::Refused(r),
+    }
+}
+
+// The label of an instant's fields.
+fn text_of(f: Fields) -> [u8; 24]
+    requires { ⌜ NarrowFields f ⌝ }
+    ensures { λ r. ⌜ r ≡ labelText f ⌝ }
+{
+    spelled(
+        f.year as u32,
+        f.month as u32,
+        f.day as u32,
+        f.hour as u32,
+        f.minute as u32,
+        f.second as u32,
+        f.millisecond as u32,
+    )
+}
 
 // The label of fields that it has room for.
 fn spelled(year: u32, month: u32, day: u32, hour: u32, minute: u32, second: u32, millisecond: u32) -> [u8; 24]
@@ -46,6 +90,43 @@ fn spelled(year: u32, month: u32, day: u32, hour: u32, minute: u32, second: u32,
         (48 + millisecond % 10) as u8,
         b'Z',
     ]
+}
+
+// The instant of a label. 8 for a label of another shape, then the refusals of its fields: 2, 3, 5.
+pub fn read_instant(label: &[u8]) -> ReadAnswer
+    ensures { λ r. ⌜ readOutcome r ≡ readAnswer (now (label .entry)) ⌝ }
+{
+    if label.len() != LENGTH {
+        return ReadAnswer::Refused(Refusal::MalformedLabel);
+    }
+    if !digits::fits(b"0000-00-00", &label[..10]) {
+        return ReadAnswer::Refused(Refusal::MalformedLabel);
+    }
+    let year = digits::field(label, 0, 4);
+    let month = digits::field(label, 5, 2);
+    let day = digits::field(label, 8, 2);
+    match read_time(&label[10..], DECIMALS) {
+        Time::Read(hour, minute, second, millisecond) => joined(year, month, day, hour, minute, second, millisecond),
+        Time::Malformed => ReadAnswer::Refused(Refusal::MalformedLabel),
+    }
+}
+
+// The instant of fields.
+fn joined(year: u32, month: u32, day: u32, hour: u32, minute: u32, second: u32, millisecond: u32) -> ReadAnswer
+    ensures { λ r. ⌜ readOutcome r ≡ joinAnswer (pos year) (pos month) (pos day) (pos hour) (pos minute) (pos second) (pos millisecond) ⌝ }
+{
+    match instant::join_instant(
+        year as i64,
+        month as i64,
+        day as i64,
+        hour as i64,
+        minute as i64,
+        second as i64,
+        millisecond as i64,
+    ) {
+        NumberAnswer::Value(ms) => ReadAnswer::Value(ms),
+        NumberAnswer::Refused(r) => ReadAnswer::Refused(r),
+    }
 }
 
 enum Time {
