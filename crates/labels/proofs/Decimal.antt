@@ -56,6 +56,13 @@ number-digits n (suc count) h =
     let e = number-digits (n / 10) count l in
     from-append 0 (digits (n / 10) count) ((48 + n % 10) ∷ []) ∙ omega arith
 
+pub number-below : (n count : ℕ) → number (digits n count) < 10 ^ count
+number-below n zero = lit< tt
+number-below n (suc count) =
+    let l = number-below (n / 10) count in
+    let e = from-append 0 (digits (n / 10) count) ((48 + n % 10) ∷ []) in
+    rw pow-suc (omega arith)
+
 pub length-digits : (n count : ℕ) → length (digits n count) ≡ count
 length-digits n zero = refl
 length-digits n (suc count) = length-append (digits (n / 10) count) _ ∙ omega (arith, length-digits (n / 10) count)
