@@ -24,7 +24,7 @@ use Rattle.calendar.proofs.Order.{Before, in-year, in-month, in-day, be
 use Rattle.calendar.proofs.Steps.{at, found, count-after, range-years}
 use Rattle.calendar.proofs.Tests.{valid-answer, accepted-valid, accepted-is}
 use Rattle.calendar.proofs.Weekday.{weekday-add}
-use Rattle.calendar.proofs.Dates.{counted, count-inside, added}
+use Rattle.calendar.proofs.Dates.{counted, count-inside, days-inside, added}
 
 -- counts and valid dates correspond one to one
 
@@ -77,21 +77,28 @@ civil-value z d = go (outside firstCount lastCount z) refl
     go true e h = absurd (let z : _≡_ {A = ℕ} 0 1 = cc in omega arith)
     go false e h = (refl, cc)
 
-pub days-of-civil : (z : ℤ) (d : Date) → civilAnswer z ≡ value d → daysAnswer (d .year) (d .month) (d .day) ≡ value z
+pub days-of-date-of-count :
+    (z : ℤ) → outside firstCount lastCount z ≡ false → daysAnswer (dateOfCount z .year) (dateOfCount z .month) (dateOfCount z .day) ≡ value z
 unfolding daysAnswer
+days-of-date-of-count z h =
+    valid-answer (dateOfCount z) (λ d. value (countOfDate d)) (date-of-count-is-valid z h) ∙ ap value (count-of-date-of-count z h)
+
+pub days-of-civil : (z : ℤ) (d : Date) → civilAnswer z ≡ value d → daysAnswer (d .year) (d .month) (d .day) ≡ value z
 days-of-civil z d h =
     let c = civil-value z d h in
-    valid-answer d (λ d. value (countOfDate d)) (subst ValidDate (c .1) (date-of-count-is-valid z (c .0)))
-    ∙ ap value (ap countOfDate (sym (c .1)) ∙ count-of-date-of-count z (c .0))
+    ap (λ (d : Date). daysAnswer (d .year) (d .month) (d .day)) (sym (c .1)) ∙ days-of-date-of-count z (c .0)
+
+pub date-of-days : (year month day z : ℤ) → daysAnswer year month day ≡ value z → dateOfCount z ≡ date year month day
+unfolding daysAnswer
+date-of-days year month day z h =
+    ap dateOfCount (accepted-is year month day countOfDate z (sym h))
+    ∙ date-of-count-of-date (date year month day) (accepted-valid year month day countOfDate z (sym h))
 
 pub civil-of-days : (year month day z : ℤ) → daysAnswer year month day ≡ value z → civilAnswer z ≡ value (date year month day)
-unfolding civilAnswer daysAnswer
+unfolding civilAnswer
 civil-of-days year month day z h =
-    let d = date year month day in
-    let v = accepted-valid year month day countOfDate z (sym h) in
-    let e = accepted-is year month day countOfDate z (sym h) in
-    ap (λ t. cond t (refused 4) (value (dateOfCount z))) (ap (outside firstCount lastCount) e ∙ count-inside d v)
-    ∙ ap value (ap dateOfCount e ∙ date-of-count-of-date d v)
+    ap (λ t. cond t (refused 4) (value (dateOfCount z))) (days-inside year month day z (sym h))
+    ∙ ap value (date-of-days year month day z h)
 
 -- the next count is the next day
 pub next-count-is-next-day : (z : ℤ) → outside firstCount lastCount z ≡ false → dateOfCount (z +ℤ pos 1) ≡ nextDay (dateOfCount z)

@@ -1,0 +1,88 @@
+-- The first bad instant of a list, and a list filled from the front.
+use Prim.Native.Nat.{ℕ, zero, suc, _+_, _≤_, _<_}
+use mathlib.Core.Path.{_≡_, refl, sym, ap, _∙_}
+use mathlib.Core.Bool.{Bool, true, false, cond}
+use mathlib.Core.List.{List, [], _∷_, _++_, map, append-nil}
+use native.Mathlib.Nat.{zero-add}
+use native.Mathlib.Numerals.{add-one}
+use native.Mathlib.Omega.{arith}
+use lib.Dec.{ltb}
+use lib.IntN.{ℤ, pos}
+use lib.ListN.{length, getD, take, drop, set, drop-of-length-le, length-map, List·getD-map}
+use lib.Seq.{drop-cons, paste, paste-suc, take-all}
+use borrow.Author.Tests.{eq-eqb, ne-eqb, lt-ltb, le-ltb}
+use Rattle.refusal.specs.Outcome.{Outcome, value, refused, refusedAt}
+use Rattle.instant.specs.Instant.{dayOf}
+use Rattle.instant.specs.Answers.{badInstant, firstBad, indexAnswer, afterCall, indexDays}
+
+-- at place i of a list
+module _ (s : List ℤ) (i : ℕ) where
+  pub bad-end : length s ≤ i → firstBad (drop i s) ≡ 0
+  unfolding firstBad
+  bad-end h = ap firstBad (drop-of-length-le s h)
+
+  module _ (l : i < length s) where
+    at-place : firstBad (drop i s) ≡ cond (badInstant (getD s i (pos 0))) 0 (suc (firstBad (drop (suc i) s)))
+    unfolding firstBad
+    at-place = ap firstBad (drop-cons s i (pos 0) l)
+
+    pub bad-here : badInstant (getD s i (pos 0)) ≡ true → firstBad (drop i s) ≡ 0
+    bad-here h = at-place ∙ ap (λ t. cond t 0 (suc (firstBad (drop (suc i) s)))) h
+
+    pub bad-later : badInstant (getD s i (pos 0)) ≡ false → firstBad (drop i s) ≡ suc (firstBad (drop (i + 1) s))
+    bad-later h = at-place ∙ ap (λ t. cond t 0 (suc (firstBad (drop (suc i) s)))) h ∙ ap (λ j. suc (firstBad (drop j s))) (sym (add-one i))
+
+-- the place is at most the length, and where it is the length no instant is bad
+pub bad-le : (s : List ℤ) → firstBad s ≤ length s
+unfolding firstBad
+bad-le [] = omega arith
+bad-le (ms ∷ s) = go (badInstant ms) (bad-le s)
+  where
+    go : (t : Bool) → firstBad s ≤ length s → cond t 0 (suc (firstBad s)) ≤ suc (length s)
+    go true h = omega arith
+    go false h = omega arith
+
+none-here : (t : Bool) (m n : ℕ) → cond t 0 (suc m) ≡ suc n → (t ≡ false) × (m ≡ n)
+none-here true m n e = absurd (omega arith)
+none-here false m n e = (refl, omega arith)
+
+pub all-good : (s : List ℤ) → firstBad s ≡ length s → (k : ℕ) → k < length s → badInstant (getD s k (pos 0)) ≡ false
+unfolding firstBad
+all-good [] e k l = absurd (omega arith)
+all-good (ms ∷ s) e zero l = none-here (badInstant ms) (firstBad s) (length s) e .0
+all-good (ms ∷ s) e (suc k) l = all-good s (none-here (badInstant ms) (firstBad s) (length s) e .1) k (omega arith)
+
+-- what the tests of the index decide
+module _ (instants days : List ℤ) where
+  pub unequal : (length instants ≡ length days → ⊥) → indexAnswer instants days ≡ refused 12
+  unfolding indexAnswer
+  unequal h = rw (ne-eqb (length instants) (length days) h)
+
+  module _ (h : length instants ≡ length days) where
+    decided : (t : Bool) → ltb (firstBad instants) (length instants) ≡ t → indexAnswer instants days ≡ cond t (refusedAt 4 (firstBad instants)) (value (length instants))
+    unfolding indexAnswer
+    decided t e = rw (eq-eqb (length instants) (length days) h, e)
+
+    pub bad-found : firstBad instants < length instants → indexAnswer instants days ≡ refusedAt 4 (firstBad instants)
+    bad-found l = decided true (lt-ltb (firstBad instants) (length instants) l)
+
+    pub none-found : length instants ≤ firstBad instants → indexAnswer instants days ≡ value (length instants)
+    none-found l = decided false (le-ltb (firstBad instants) (length instants) l)
+
+  pub held : (o : Outcome ℕ) → indexAnswer instants days ≡ o → indexDays instants days ≡ afterCall o (map dayOf instants) days
+  unfolding indexDays
+  held o e = ap (λ o. afterCall o (map dayOf instants) days) e
+
+-- a list that is filled from the front
+module _ (f : ℤ → ℤ) (s d : List ℤ) (h : length s ≡ length d) where
+  pub filled-one : (i : ℕ) (v : ℤ) → i < length s → v ≡ f (getD s i (pos 0)) → set (paste d 0 (map f s) i) i v ≡ paste d 0 (map f s) (i + 1)
+  filled-one i v l e =
+      let k : i < length (map f s) = omega (arith, length-map s f) in
+      ap (λ (v : ℤ). set (paste d 0 (map f s) i) i v) (e ∙ sym (List·getD-map f s i (pos 0)))
+      ∙ ap (λ (j : ℕ). set (paste d 0 (map f s) i) j (getD (map f s) i (f (pos 0)))) (sym (zero-add i))
+      ∙ paste-suc d 0 (map f s) i (f (pos 0)) (omega arith) k ∙ ap (paste d 0 (map f s)) (sym (add-one i))
+
+  pub filled : (i : ℕ) → length s ≤ i → paste d 0 (map f s) i ≡ map f s
+  filled i l =
+      ap (λ (r : List ℤ). take i (map f s) ++ r) (drop-of-length-le d {i = 0 + i} (omega arith)) ∙ append-nil (take i (map f s))
+      ∙ take-all i (map f s) (omega (arith, length-map s f))

@@ -1,0 +1,4 @@
+pub mod Ranges
+pub mod Joined
+pub mod Index
+pub mod Laws

@@ -1,0 +1,95 @@
+use Rattle.instant.specs.Instant.{dayOf}
+use Rattle.instant.proofs.Index.{all-good, filled-one, filled}
+use Rattle.instant.proofs.Ranges.{day-fits}
+use Rattle.numbers.proofs.Machine.{read}
+use mir.Facts.{toZ-ofZ}
+use mir.Val.{SFits, toZ, ofZ}
+use mir.Syntax.{w32, w64}
+use lib.IntN.{ℤ, pos}
+use lib.ListN.{length, getD, set, length-set}
+use lib.Seq.{paste, paste-zero}
+use Prim.Native.Nat.{_-_, _≤_}
+use native.Mathlib.Omega.{arith}
+use mathlib.Core.List.{List, map}
+use mathlib.Core.Path.{_≡_, refl, sym, ap, _∙_, subst}
+use borrow.Author.Needs.{needs}
+use Rattle.instant.proofs.fill_days.Statement.{statement}
+use Rattle.instant.proofs.fill_days.Tie as tie
+
+abbrev Inv-loop : tie.InvT-loop
+Inv-loop instants days₀ i₀ days i = (i ≤ length instants) × ((length days ≡ length days₀) × (days ≡ paste days₀ 0 (map dayOf instants) i))
+
+abbrev μ-loop : tie.MeasureT-loop
+μ-loop instants days₀ i₀ days i = length instants - i
+
+loop-holds : tie.Need-loop-holds Inv-loop μ-loop
+loop-holds c = (omega arith, (refl, paste-zero (c .args .days .now) 0 (map dayOf (c .args .instants .now))))
+
+mul-day : tie.Need-mul-day Inv-loop μ-loop
+mul-day c = search needs
+
+shared-slice-copy-out-day : tie.Need-shared-slice-copy-out-day Inv-loop μ-loop
+shared-slice-copy-out-day c = search needs
+
+day-requires : tie.Need-day-requires Inv-loop μ-loop
+day-requires c κs = search needs
+
+-- the day that is stored
+day-is : (c : tie.After-day Inv-loop μ-loop) → read (c .day .result) ≡ dayOf (getD (c .before .before .before .before .args .instants .now) (c .before .before .before .loop .i) (pos 0))
+day-is c = let f : SFits w64 (c .day .result) = search needs in
+    let g : SFits w64 (getD (c .before .before .before .before .args .instants .now) (c .before .before .before .loop .i) (pos 0)) = search needs in
+    toZ-ofZ f ∙ c .day .ensures ∙ ap dayOf (toZ-ofZ g)
+
+cast-days : tie.Need-cast-days Inv-loop μ-loop
+cast-days c = let s = c .before .before .before .before in
+    let i = c .before .before .before .loop .i in
+    subst (SFits w32) (sym (day-is c)) (day-fits (getD (s .args .instants .now) i (pos 0)) (all-good (s .args .instants .now) (s .pre .1) i (omega arith)))
+
+mul-t10 : tie.Need-mul-t10 Inv-loop μ-loop
+mul-t10 c = search needs
+
+slice-set-from-days : tie.Need-slice-set-from-days Inv-loop μ-loop
+slice-set-from-days c = search needs
+
+add-i : tie.Need-add-i Inv-loop μ-loop
+add-i c = search needs
+
+loop-less : tie.Need-loop-less Inv-loop μ-loop
+loop-less c = search needs
+
+loop-again : tie.Need-loop-again Inv-loop μ-loop
+loop-again c = let s = c .before .before .before .before in
+    let l = c .before .before .before .loop in (
+      omega arith,
+      (
+        simp length-set (l .inv .1 .0),
+        ap (λ (d : List ℤ). set d (l .i) (toZ w32 (ofZ w32 (read (c .day .result))))) (l .inv .1 .1)
+            ∙ filled-one dayOf (s .args .instants .now) (s .args .days .now) (s .pre .0) (l .i) _ (omega arith) (toZ-ofZ (cast-days c) ∙ day-is c),
+      ),
+    )
+
+same-length : tie.Need-same-length Inv-loop μ-loop
+same-length c = search needs
+
+returns : tie.Need-returns Inv-loop μ-loop
+returns c = let l = c .before .loop in
+    l .inv .1 .1 ∙ filled dayOf (c .before .before .args .instants .now) (c .before .before .args .days .now) (c .before .before .pre .0) (l .i) (omega arith)
+
+pub fill-days-spec : {M : Type 1} → statement M
+fill-days-spec =
+    tie.close
+    (tie.spec
+    Inv-loop
+    μ-loop
+    loop-holds
+    mul-day
+    shared-slice-copy-out-day
+    day-requires
+    cast-days
+    mul-t10
+    slice-set-from-days
+    add-i
+    loop-less
+    loop-again
+    same-length
+    returns)

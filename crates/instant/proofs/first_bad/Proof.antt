@@ -1,0 +1,72 @@
+use Rattle.instant.specs.Answers.{firstBad}
+use Rattle.instant.specs.Units.{firstInstant, lastInstant}
+use Rattle.instant.proofs.Index.{bad-end, bad-here, bad-later}
+use Rattle.numbers.proofs.Between.{tested}
+use mir.Val.{SFits}
+use mir.Syntax.{w64}
+use lib.IntN.{pos}
+use lib.ListN.{length, getD, drop}
+use Prim.Native.Nat.{_+_, _-_, _≤_}
+use native.Mathlib.Omega.{arith}
+use mathlib.Core.Path.{_≡_}
+use borrow.Author.Needs.{needs}
+use Rattle.instant.proofs.first_bad.Statement.{statement}
+use Rattle.instant.proofs.first_bad.Tie as tie
+
+abbrev Inv-loop : tie.InvT-loop
+Inv-loop instants i₀ i = (i ≤ length instants) × (firstBad instants ≡ i + firstBad (drop i instants))
+
+abbrev μ-loop : tie.MeasureT-loop
+μ-loop instants i₀ i = length instants - i
+
+loop-holds : tie.Need-loop-holds Inv-loop μ-loop
+loop-holds c = (omega arith, omega arith)
+
+mul-outside : tie.Need-mul-outside Inv-loop μ-loop
+mul-outside c = search needs
+
+shared-slice-copy-out-outside : tie.Need-shared-slice-copy-out-outside Inv-loop μ-loop
+shared-slice-copy-out-outside c = search needs
+
+outside-requires : tie.Need-outside-requires Inv-loop μ-loop
+outside-requires c κs = search needs
+
+returns : tie.Need-returns Inv-loop μ-loop
+returns c = let l = c .before .before .before .before .loop in
+    let s = c .before .before .before .before .before .args .instants .now in
+    let f : SFits w64 (getD s (l .i) (pos 0)) = search needs in
+    let e = bad-here s (l .i) (omega arith) (tested firstInstant lastInstant f (c .before .outside .ensures) (c .if1 .taken)) in
+    omega (arith, l .inv .1)
+
+add-i : tie.Need-add-i Inv-loop μ-loop
+add-i c = search needs
+
+loop-less : tie.Need-loop-less Inv-loop μ-loop
+loop-less c = search needs
+
+loop-again : tie.Need-loop-again Inv-loop μ-loop
+loop-again c = let l = c .before .before .before .before .loop in
+    let s = c .before .before .before .before .before .args .instants .now in
+    let f : SFits w64 (getD s (l .i) (pos 0)) = search needs in
+    let e = bad-later s (l .i) (omega arith) (tested firstInstant lastInstant f (c .before .outside .ensures) (c .if1 .left)) in
+    (omega arith, omega (arith, l .inv .1))
+
+returns-2 : tie.Need-returns-2 Inv-loop μ-loop
+returns-2 c = let l = c .before .loop in
+    omega (arith, l .inv .1, bad-end (c .before .before .args .instants .now) (l .i) (omega arith))
+
+pub first-bad-spec : {M : Type 1} → statement M
+first-bad-spec =
+    tie.close
+    (tie.spec
+    Inv-loop
+    μ-loop
+    loop-holds
+    mul-outside
+    shared-slice-copy-out-outside
+    outside-requires
+    returns
+    add-i
+    loop-less
+    loop-again
+    returns-2)

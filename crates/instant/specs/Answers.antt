@@ -1,0 +1,79 @@
+-- The whole answer of each call, over all whole numbers and lists: the refusals of document 01 by their numbers and in its order, then
+-- the value.
+use Prim.Native.Nat.{ℕ, suc, _-_}
+use mathlib.Core.Bool.{Bool, cond, not, _||_}
+use mathlib.Core.List.{List, [], _∷_, map}
+use lib.Dec.{eqb, ltb}
+use lib.IntN.{ℤ, pos}
+use lib.ListN.{length}
+use Rattle.refusal.specs.Numbers.{refusalNumber}
+use Rattle.refusal.specs.Outcome.{Outcome, value, refused, refusedAt}
+use Rattle.numbers.specs.Range.{outside}
+use Rattle.calendar.specs.Answers.{ofDate}
+use Rattle.instant.specs.Units.{perSecond, firstInstant, lastInstant}
+use Rattle.instant.specs.Instant.{dayOf, fieldsOf, timeOfFields, instantAt}
+use Rattle.instant.specs.declared.Fields.{Fields}
+use Rattle.instant.specs.declared.NumberAnswer.{NumberAnswer}
+use Rattle.instant.specs.declared.NumberAnswer.the-variants as N
+use Rattle.instant.specs.declared.FieldsAnswer.{FieldsAnswer}
+use Rattle.instant.specs.declared.FieldsAnswer.the-variants as F
+use Rattle.instant.specs.declared.IndexAnswer.{IndexAnswer}
+use Rattle.instant.specs.declared.IndexAnswer.the-variants as I
+
+-- what each case of an answer hands back
+abbrev pub numberOutcome : NumberAnswer → Outcome ℤ
+numberOutcome (N.Value n) = value n
+numberOutcome (N.Refused r) = refused (refusalNumber r)
+
+abbrev pub fieldsOutcome : FieldsAnswer → Outcome Fields
+fieldsOutcome (F.Value f) = value f
+fieldsOutcome (F.Refused r) = refused (refusalNumber r)
+
+abbrev pub indexOutcome : IndexAnswer → Outcome ℕ
+indexOutcome (I.Written n) = value n
+indexOutcome (I.Refused r) = refused (refusalNumber r)
+indexOutcome (I.RefusedAt r place) = refusedAt (refusalNumber r) place
+
+-- an instant outside the range
+abbrev pub badInstant : (ms : ℤ) → Bool
+badInstant ms = outside firstInstant lastInstant ms
+
+-- 4 for an instant outside the range
+unfoldable pub dayAnswer : (ms : ℤ) → Outcome ℤ
+dayAnswer ms = cond (badInstant ms) (refused 4) (value (dayOf ms))
+
+unfoldable pub fieldsAnswer : (ms : ℤ) → Outcome Fields
+fieldsAnswer ms = cond (badInstant ms) (refused 4) (value (fieldsOf ms))
+
+-- an hour outside 0..23, a minute or second outside 0..59, or a millisecond outside 0..999
+abbrev pub badTime : (hour minute second millisecond : ℤ) → Bool
+badTime hour minute second millisecond =
+    outside (pos 0) (pos 23) hour
+    || (outside (pos 0) (pos 59) minute || (outside (pos 0) (pos 59) second || outside (pos 0) (pos (perSecond - 1)) millisecond))
+
+-- the refusals of the date, 1, 2, 3, then 5 for the time
+unfoldable pub joinAnswer : (year month day hour minute second millisecond : ℤ) → Outcome ℤ
+joinAnswer year month day hour minute second millisecond =
+    ofDate year month day
+    (λ d. cond (badTime hour minute second millisecond) (refused 5) (value (instantAt d (timeOfFields hour minute second millisecond))))
+
+-- the place, from 0, of the first instant outside the range; the length where there is none
+unfoldable pub firstBad : (instants : List ℤ) → ℕ
+firstBad [] = 0
+firstBad (ms ∷ instants) = cond (badInstant ms) 0 (suc (firstBad instants))
+
+-- 12 for lists of unequal length, then 4 with the place of the first instant outside the range; else how many days are written
+unfoldable pub indexAnswer : (instants days : List ℤ) → Outcome ℕ
+indexAnswer instants days =
+    cond (not (eqb (length instants) (length days))) (refused 12)
+    (cond (ltb (firstBad instants) (length instants)) (refusedAt 4 (firstBad instants)) (value (length instants)))
+
+-- what a lent list holds after a call: what an accepted call writes, and on every refusal what it held before
+abbrev pub afterCall : {A : Type 0} → Outcome A → (written before : List ℤ) → List ℤ
+afterCall (value a) written before = written
+afterCall (refused number) written before = before
+afterCall (refusedAt number place) written before = before
+
+-- what the second list holds after the call: the day of each instant, in order
+unfoldable pub indexDays : (instants days : List ℤ) → List ℤ
+indexDays instants days = afterCall (indexAnswer instants days) (map dayOf instants) days

@@ -1,0 +1,4 @@
+pub mod Units
+pub mod Instant
+pub mod Answers
+pub mod Checked

@@ -1,0 +1,98 @@
+-- Numbers and their digits.
+use Prim.Native.Nat.{ℕ, zero, suc, _+_, _-_, _*_, _/_, _%_, _^_, _≤_, _<_}
+use mathlib.Core.Path.{_≡_, refl, sym, ap, ap₂, _∙_}
+use mathlib.Core.Bool.{Bool, true, false, _&&_}
+use mathlib.Core.List.{List, [], _∷_, _++_, append-assoc, append-nil}
+use native.Mathlib.Nat.{pow-suc, pow-le-pow-right}
+use native.Mathlib.Numerals.{add-one}
+use native.Mathlib.Omega.{arith}
+use borrow.Author.Tests.{leb-true, le-leb}
+use lib.Dec.{leb, lit≤, lit<}
+use lib.ListN.{length, getD, drop, replicate, drop-of-length-le, length-append}
+use lib.Seq.{drop-cons, append-snoc}
+use Rattle.labels.specs.Digits.{digits, numberFrom, number, isDigit}
+
+-- ---- reading, byte by byte
+
+pub next-digit : (text : List ℕ) (n i : ℕ) → i < length text → numberFrom n (drop i text) ≡ numberFrom (n * 10 + (getD text i 0 - 48)) (drop (i + 1) text)
+next-digit text n i h = rw (add-one, drop-cons text i 0)
+
+pub all-read : (text : List ℕ) (n i : ℕ) → length text ≤ i → numberFrom n (drop i text) ≡ n
+all-read text n i h = rw (drop-of-length-le text h)
+
+-- bytes below 256 make numbers below 23 * 10 ^ i, and seven of them fit 32 bits
+pub power-suc : (i : ℕ) → 10 ^ (i + 1) ≡ 10 ^ i * 10
+power-suc i = rw add-one (pow-suc 10 i)
+
+pub power-small : (i : ℕ) → i < 7 → 10 ^ i ≤ 1000000
+power-small i h = let l : i ≤ 6 = omega arith in pow-le-pow-right {n = 10} (lit< tt) l
+
+-- ---- a digit
+
+pub and-left : (a b : Bool) → a && b ≡ true → a ≡ true
+and-left true b h = refl
+and-left false b h = h
+
+pub and-right : (a b : Bool) → a && b ≡ true → b ≡ true
+and-right true b h = h
+and-right false b h = absurd (let z : _≡_ {A = ℕ} 0 1 = cc in omega arith)
+
+pub digit-range : (byte : ℕ) → isDigit byte ≡ true → (48 ≤ byte) × (byte ≤ 57)
+digit-range byte h = (leb-true 48 byte (and-left (leb 48 byte) _ h), leb-true byte 57 (and-right (leb 48 byte) _ h))
+
+pub is-digit : (n : ℕ) → isDigit (48 + n % 10) ≡ true
+is-digit n = ap₂ _&&_ (le-leb 48 (48 + n % 10) (omega arith)) (le-leb (48 + n % 10) 57 (omega arith))
+
+-- ---- the number of a number's digits
+
+from-append : (n : ℕ) (a b : List ℕ) → numberFrom n (a ++ b) ≡ numberFrom (numberFrom n a) b
+from-append n [] b = refl
+from-append n (d ∷ a) b = from-append (n * 10 + (d - 48)) a b
+
+pub number-digits : (n count : ℕ) → n < 10 ^ count → number (digits n count) ≡ n
+number-digits n zero h = omega arith
+number-digits n (suc count) h =
+    let l : n / 10 < 10 ^ count = omega (arith, rw pow-suc at h) in
+    let e = number-digits (n / 10) count l in
+    from-append 0 (digits (n / 10) count) ((48 + n % 10) ∷ []) ∙ omega arith
+
+pub number-below : (n count : ℕ) → number (digits n count) < 10 ^ count
+number-below n zero = lit< tt
+number-below n (suc count) =
+    let l = number-below (n / 10) count in
+    let e = from-append 0 (digits (n / 10) count) ((48 + n % 10) ∷ []) in
+    rw pow-suc (omega arith)
+
+pub length-digits : (n count : ℕ) → length (digits n count) ≡ count
+length-digits n zero = refl
+length-digits n (suc count) = length-append (digits (n / 10) count) _ ∙ omega (arith, length-digits (n / 10) count)
+
+-- ---- the digits of a text's number
+
+abbrev pub allDigits : List ℕ → Bool
+allDigits [] = true
+allDigits (b ∷ bs) = isDigit b && allDigits bs
+
+-- how many digits there are after `text`, if there were `count` before
+abbrev after : (text : List ℕ) (count : ℕ) → ℕ
+after [] count = count
+after (b ∷ bs) count = after bs (suc count)
+
+after-is : (text : List ℕ) (count : ℕ) → after text count ≡ length text + count
+after-is [] count = omega arith
+after-is (b ∷ bs) count = after-is bs (suc count) ∙ omega arith
+
+digits-from : (text : List ℕ) (n count : ℕ) → allDigits text ≡ true → digits (numberFrom n text) (after text count) ≡ digits n count ++ text
+digits-from [] n count h = sym (append-nil (digits n count))
+digits-from (b ∷ bs) n count h =
+    let r = digit-range b (and-left (isDigit b) _ h) in
+    let q : (n * 10 + (b - 48)) / 10 ≡ n = omega arith in
+    let m : 48 + (n * 10 + (b - 48)) % 10 ≡ b = omega arith in
+    digits-from bs (n * 10 + (b - 48)) (suc count) (and-right (isDigit b) _ h)
+    ∙ ap₂ (λ q m. (digits q count ++ m ∷ []) ++ bs) q m
+    ∙ append-snoc (digits n count) b bs
+
+pub digits-number : (text : List ℕ) (count : ℕ) → length text ≡ count → allDigits text ≡ true → digits (number text) count ≡ text
+digits-number text count l h =
+    let e : count ≡ after text 0 = omega (arith, after-is text 0) in
+    ap (digits (number text)) e ∙ digits-from text 0 0 h

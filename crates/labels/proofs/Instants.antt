@@ -1,0 +1,104 @@
+-- The fields of an instant have room in its label, and what the code writes of them is the label.
+use Prim.Native.Nat.{ℕ, _+_, _/_, _%_, _≤_, _<_, _^_}
+use mathlib.Core.Path.{_≡_, refl, sym, ap, ap₂, _∙_, subst}
+use mathlib.Core.Bool.{Bool, true, false, cond, _||_}
+use mathlib.Core.List.{List, [], _∷_, _++_}
+use native.Mathlib.Omega.{arith}
+use lib.Dec.{T, lit<}
+use lib.IntN.{ℤ, pos, natAbs}
+use lib.Signed.{nonNeg}
+use mir.Syntax.{w32, w64}
+use mir.Val.{SFits, Fits, toZ}
+use mir.Facts.{toZ-ofZ, toZ-pos}
+use Rattle.refusal.specs.Outcome.{Outcome, value, refused}
+use Rattle.numbers.specs.Range.{outside}
+use Rattle.numbers.proofs.Integers.{no-both}
+use Rattle.numbers.proofs.Machine.{read, pos-fits, cast-pos}
+use Rattle.numbers.proofs.Between.{Within, within, inside-pos}
+use Rattle.calendar.specs.Range.{firstYear, lastYear}
+use Rattle.calendar.specs.Gregorian.{monthLength, date}
+use Rattle.calendar.specs.Answers.{ofDate}
+use Rattle.calendar.proofs.Dates.{natural, day-small}
+use Rattle.instant.specs.Instant.{timeOfFields, instantAt}
+use Rattle.instant.specs.Answers.{badTime, fieldsAnswer, joinAnswer}
+use Rattle.instant.specs.declared.Fields.{Fields}
+use Rattle.instant.proofs.Joined as J
+use Rattle.instant.proofs.Laws.{split-join}
+use Rattle.labels.specs.Digits.{digits}
+use Rattle.labels.specs.Rfc3339.{dateText, timeText, labelText}
+use Rattle.labels.specs.Pairs.{Narrow, NarrowFields, spelledText}
+use Rattle.labels.proofs.Spelling.{label-spelled}
+
+-- an unsigned number as a signed one
+pub as-signed : {n : ℕ} → Fits w32 n → toZ w64 n ≡ pos n
+as-signed h = toZ-pos w64 (omega (arith, h .fits))
+
+-- fields that make an instant
+four-tests : (a b c t : Bool) (v : ℤ) (ms : ℤ) → cond a (refused 1) (cond b (refused 2) (cond c (refused 3) (cond t (refused 5) (value v)))) ≡ value ms → (a ≡ false) × ((b ≡ false) × ((c ≡ false) × (t ≡ false)))
+four-tests true b c t v ms e = absurd (let z : _≡_ {A = ℕ} 0 1 = cc in omega arith)
+four-tests false true c t v ms e = absurd (let z : _≡_ {A = ℕ} 0 1 = cc in omega arith)
+four-tests false false true t v ms e = absurd (let z : _≡_ {A = ℕ} 0 1 = cc in omega arith)
+four-tests false false false true v ms e = absurd (let z : _≡_ {A = ℕ} 0 1 = cc in omega arith)
+four-tests false false false false v ms e = (refl, (refl, (refl, refl)))
+
+wider : {k : ℕ} (l : ℕ) {z : ℤ} → Within k z → k ≤ l → outside (pos 0) (pos l) z ≡ false
+wider l {z} w h = let s = w .small in ap (outside (pos 0) (pos l)) (w .is) ∙ inside-pos 0 l (natAbs z) (omega arith) (omega arith)
+
+pub joined-narrow : (year month day hour minute second millisecond ms : ℤ) → joinAnswer year month day hour minute second millisecond ≡ value ms → NarrowFields (record { year = year; month = month; day = day; hour = hour; minute = minute; second = second; millisecond = millisecond })
+unfolding joinAnswer ofDate
+joined-narrow year month day hour minute second millisecond ms e =
+    let t = four-tests (outside firstYear lastYear year) (outside (pos 1) (pos 12) month) (outside (pos 1) (monthLength year month) day) (badTime hour minute second millisecond) _ ms e in
+    let d = natural year month day (t .0) (t .1 .0) (t .1 .1 .0) in
+    let v = d .valid in
+    let s = day-small (d .y) (d .m) (v .month-low) (v .month-high) in
+    let c = J.natural hour minute second millisecond (t .1 .1 .1) in
+    record {
+      year-within = t .0;
+      month-within = ap (outside (pos 0) (pos 99)) (d .month-is) ∙ inside-pos 0 99 (d .m) (omega arith) (omega (arith, v .month-high));
+      day-within = ap (outside (pos 0) (pos 99)) (d .day-is) ∙ inside-pos 0 99 (d .d) (omega arith) (omega (arith, v .day-high));
+      hour-within = wider 99 (c .hour-within) (omega arith);
+      minute-within = wider 99 (c .minute-within) (omega arith);
+      second-within = wider 99 (c .second-within) (omega arith);
+      millisecond-within = wider 999 (c .last-within) (omega arith);
+    }
+
+pub fields-narrow : (ms : ℤ) (f : Fields) → fieldsAnswer ms ≡ value f → NarrowFields f
+fields-narrow ms f e = joined-narrow (f .year) (f .month) (f .day) (f .hour) (f .minute) (f .second) (f .millisecond) ms (split-join ms f e)
+
+-- a field in 0..k as an unsigned number
+module _ (k : ℕ) (h : k < 2 ^ 32) (z : ℤ) (e : outside (pos 0) (pos k) z ≡ false) where
+  fits : SFits w64 z
+  fits = let w = within k z e in let l = w .small in subst (λ z. SFits w64 z) (sym (w .is)) (pos-fits (omega arith))
+
+  pub abs-read : natAbs (read z) ≡ natAbs z
+  abs-read = ap natAbs (toZ-ofZ fits)
+
+  pub cast-field : T (nonNeg (read z)) × Fits w32 (natAbs (read z))
+  cast-field = let w = within k z e in let l = w .small in cast-pos w32 (natAbs z) (omega arith) (toZ-ofZ fits ∙ w .is)
+
+  pub read-below : natAbs (read z) < k + 1
+  read-below = let w = within k z e in let l = w .small in omega (arith, abs-read)
+
+module _ (f : Fields) (n : NarrowFields f) where
+  pub narrow-read : Narrow (natAbs (read (f .year))) (natAbs (read (f .month))) (natAbs (read (f .day))) (natAbs (read (f .hour))) (natAbs (read (f .minute))) (natAbs (read (f .second))) (natAbs (read (f .millisecond)))
+  narrow-read =
+      record {
+        year-below = read-below 9999 (lit< tt) (f .year) (n .year-within);
+        month-below = read-below 99 (lit< tt) (f .month) (n .month-within);
+        day-below = read-below 99 (lit< tt) (f .day) (n .day-within);
+        hour-below = read-below 99 (lit< tt) (f .hour) (n .hour-within);
+        minute-below = read-below 99 (lit< tt) (f .minute) (n .minute-within);
+        second-below = read-below 99 (lit< tt) (f .second) (n .second-within);
+        millisecond-below = read-below 999 (lit< tt) (f .millisecond) (n .millisecond-within);
+      }
+
+  pub spelled-label : spelledText (natAbs (read (f .year))) (natAbs (read (f .month))) (natAbs (read (f .day))) (natAbs (read (f .hour))) (natAbs (read (f .minute))) (natAbs (read (f .second))) (natAbs (read (f .millisecond))) ≡ labelText f
+  spelled-label =
+      let y = abs-read 9999 (lit< tt) (f .year) (n .year-within) in
+      let o = abs-read 99 (lit< tt) (f .month) (n .month-within) in
+      let d = abs-read 99 (lit< tt) (f .day) (n .day-within) in
+      let h = abs-read 99 (lit< tt) (f .hour) (n .hour-within) in
+      let m = abs-read 99 (lit< tt) (f .minute) (n .minute-within) in
+      let s = abs-read 99 (lit< tt) (f .second) (n .second-within) in
+      let k = abs-read 999 (lit< tt) (f .millisecond) (n .millisecond-within) in
+      label-spelled narrow-read ∙ (λ i. dateText (y i) (o i) (d i) ++ timeText 3 (h i) (m i) (s i) (k i))

@@ -1,0 +1,9 @@
+pub mod Copy
+pub mod Decimal
+pub mod Shapes
+pub mod Reading
+pub mod Spelling
+pub mod Positions
+pub mod Texts
+pub mod Instants
+pub mod Laws

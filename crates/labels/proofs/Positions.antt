@@ -1,0 +1,34 @@
+-- A tested position as a natural number, and its label.
+use Prim.Native.Nat.{ℕ, _<_}
+use mathlib.Core.Path.{_≡_, refl, sym, ap, _∙_, subst}
+use mathlib.Core.Bool.{Bool, true, false, cond}
+use mathlib.Core.List.{List}
+use native.Mathlib.Omega.{arith}
+use lib.IntN.{ℤ, pos, negsuc, natAbs}
+use lib.Signed.{ltZ}
+use borrow.Author.Tests.{ltb-false}
+use mir.Syntax.{w64}
+use mir.Val.{SFits}
+use mir.Facts.{toZ-ofZ}
+use Rattle.refusal.specs.Outcome.{Outcome, value, refused}
+use Rattle.numbers.specs.Range.{outside}
+use Rattle.numbers.proofs.Integers.{no-both}
+use Rattle.numbers.proofs.Machine.{read, tested-below, tested-above, tested-inside}
+use Rattle.labels.specs.Webvtt.{lastPosition, positionText, positionLabel}
+
+pub in-range : (z : ℤ) → ltZ z (pos 0) ≡ false → ltZ lastPosition z ≡ false → (z ≡ pos (natAbs z)) × (natAbs z < 360000000000)
+in-range (pos a) lo hi = (refl, omega (arith, ltb-false 359999999999 a hi))
+in-range (negsuc a) lo hi = no-both true refl lo
+
+module _ {z : ℤ} (f : SFits w64 z) where
+  pub below-range : ltZ (read z) (pos 0) ≡ true → refused 6 ≡ positionLabel z
+  unfolding positionLabel
+  below-range lo = rw (tested-below (pos 0) lastPosition f lo)
+
+  pub above-range : ltZ (read z) (pos 0) ≡ false → ltZ lastPosition (read z) ≡ true → refused 6 ≡ positionLabel z
+  unfolding positionLabel
+  above-range lo hi = rw (tested-above (pos 0) lastPosition f lo hi)
+
+  pub labelled : ltZ (read z) (pos 0) ≡ false → ltZ lastPosition (read z) ≡ false → value (positionText (natAbs (read z))) ≡ positionLabel z
+  unfolding positionLabel
+  labelled lo hi = rw (tested-inside (pos 0) lastPosition f lo hi) (ap (λ z. value (positionText (natAbs z))) (toZ-ofZ f))

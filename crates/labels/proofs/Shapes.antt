@@ -1,0 +1,110 @@
+-- Texts of one shape.
+use Prim.Native.Nat.{ℕ, zero, suc, _+_, _/_, _%_, _≤_, _<_}
+use mathlib.Core.Path.{_≡_, refl, sym, ap, ap₂, _∙_}
+use mathlib.Core.Bool.{Bool, true, false, _&&_}
+use mathlib.Core.List.{List, [], _∷_, _++_}
+use native.Mathlib.Numerals.{add-one}
+use native.Mathlib.Nat.{suc-inj}
+use native.Mathlib.Omega.{arith}
+use borrow.Author.Tests.{eqb-true}
+use lib.Dec.{eqb}
+use lib.ListN.{length, getD, take, drop, replicate, drop-of-length-le, take-append-drop}
+use lib.Seq.{drop-cons, drop-drop, length-take-le}
+use Rattle.numbers.proofs.Integers.{no-both}
+use Rattle.labels.specs.Digits.{digits, number, isDigit, fitsOne, fits}
+use Rattle.labels.proofs.Decimal.{and-left, and-right, is-digit, allDigits, digits-number, length-digits}
+
+and-no : (a : Bool) → a && false ≡ false
+and-no true = refl
+and-no false = refl
+
+and-assoc : (a b c : Bool) → a && (b && c) ≡ (a && b) && c
+and-assoc true b c = refl
+and-assoc false b c = refl
+
+-- ---- the test, byte by byte
+
+-- a text that fits is as long as the shape
+pub uneven : (shape text : List ℕ) → (length shape ≡ length text → ⊥) → fits shape text ≡ false
+uneven [] [] h = absurd (h refl)
+uneven [] (b ∷ bs) h = refl
+uneven (s ∷ ss) [] h = refl
+uneven (s ∷ ss) (b ∷ bs) h = rw (uneven ss bs (λ e. h (ap suc e))) (and-no (fitsOne s b))
+
+module _ (shape text : List ℕ) (i : ℕ) (h : i < length shape) (l : length shape ≡ length text) where
+  both : fits (drop i shape) (drop i text) ≡ fitsOne (getD shape i 0) (getD text i 0) && fits (drop (suc i) shape) (drop (suc i) text)
+  both =
+      let h′ : i < length text = omega arith in
+      rw (drop-cons shape i 0, drop-cons text i 0)
+
+  pub next-fits : fitsOne (getD shape i 0) (getD text i 0) ≡ true → fits (drop i shape) (drop i text) ≡ fits (drop (i + 1) shape) (drop (i + 1) text)
+  next-fits e = rw (both, e, add-one)
+
+  pub no-fit : fitsOne (getD shape i 0) (getD text i 0) ≡ false → fits (drop i shape) (drop i text) ≡ false
+  no-fit e = rw (both, e)
+
+pub all-fit : (shape text : List ℕ) (i : ℕ) → length shape ≤ i → length text ≤ i → fits (drop i shape) (drop i text) ≡ true
+all-fit shape text i h k = rw (drop-of-length-le shape h, drop-of-length-le text k)
+
+-- ---- a shape of two parts
+
+pub fits-append : (a b text : List ℕ) → fits (a ++ b) text ≡ fits a (take (length a) text) && fits b (drop (length a) text)
+fits-append [] b text = refl
+fits-append (s ∷ a) b [] = refl
+fits-append (s ∷ a) b (x ∷ text) = ap (λ t. fitsOne s x && t) (fits-append a b text) ∙ and-assoc (fitsOne s x) _ _
+
+-- ---- a shape of digits
+
+pub zeros : (count : ℕ) → digits 0 count ≡ replicate count 48
+zeros zero = refl
+zeros (suc count) = ap (λ (l : List ℕ). l ++ 48 ∷ []) (zeros count) ∙ snoc count
+  where
+    snoc : (n : ℕ) → _≡_ {A = List ℕ} (replicate n 48 ++ 48 ∷ []) (48 ∷ replicate n 48)
+    snoc zero = refl
+    snoc (suc n) = ap (λ (l : List ℕ). 48 ∷ l) (snoc n)
+
+zeros-fit : (count : ℕ) (text : List ℕ) → fits (replicate count 48) text ≡ true → (length text ≡ count) × (allDigits text ≡ true)
+zeros-fit zero [] h = (refl, refl)
+zeros-fit zero (b ∷ bs) h = no-both false h refl
+zeros-fit (suc count) [] h = no-both false h refl
+zeros-fit (suc count) (b ∷ bs) h =
+    let r = zeros-fit count bs (and-right (isDigit b) _ h) in
+    (ap suc (r .0), ap₂ _&&_ (and-left (isDigit b) _ h) (r .1))
+
+-- digits at the front of a text that fits, and a mark there, from byte i of the text on
+module _ (text : List ℕ) (i : ℕ) (shape : List ℕ) where
+  pub digits-front : (count : ℕ) → fits (digits 0 count ++ shape) (drop i text) ≡ true → (drop i text ≡ digits (number (take count (drop i text))) count ++ drop (i + count) text) × (fits shape (drop (i + count) text) ≡ true)
+  digits-front count h =
+      let f = rw (fits-append (digits 0 count) shape (drop i text), length-digits 0 count) at h in
+      let z = zeros-fit count (take count (drop i text)) (sym (ap (λ s. fits s (take count (drop i text))) (zeros count)) ∙ and-left _ _ f) in
+      let d = digits-number (take count (drop i text)) count (z .0) (z .1) in
+      let e : drop count (drop i text) ≡ drop (i + count) text = drop-drop count i text in
+      (sym (take-append-drop count (drop i text)) ∙ ap₂ _++_ (sym d) e, sym (ap (fits shape) e) ∙ and-right (fits (digits 0 count) (take count (drop i text))) _ f)
+
+  pub mark-front : (mark : ℕ) → isDigit mark ≡ false → fits (mark ∷ shape) (drop i text) ≡ true → (drop i text ≡ mark ∷ drop (i + 1) text) × (fits shape (drop (i + 1) text) ≡ true)
+  mark-front mark m h = go (drop i text) refl h
+    where
+      go : (l : List ℕ) → drop i text ≡ l → fits (mark ∷ shape) l ≡ true → (l ≡ mark ∷ drop (i + 1) text) × (fits shape (drop (i + 1) text) ≡ true)
+      go [] e h = no-both false h refl
+      go (b ∷ bs) e h =
+          let r : drop (i + 1) text ≡ bs = sym (drop-drop 1 i text) ∙ ap (drop 1) e in
+          let f = rw m at h in
+          (ap₂ _∷_ (eqb-true b mark (and-left (eqb b mark) (fits shape bs) f)) (sym r), ap (fits shape) r ∙ and-right (eqb b mark) (fits shape bs) f)
+
+-- ---- texts that fit
+
+pub fits-both : (a b x y : List ℕ) → fits a x ≡ true → fits b y ≡ true → fits (a ++ b) (x ++ y) ≡ true
+fits-both [] b [] y h k = k
+fits-both [] b (t ∷ x) y h k = no-both false h refl
+fits-both (s ∷ a) b [] y h k = no-both false h refl
+fits-both (s ∷ a) b (t ∷ x) y h k =
+    ap₂ _&&_ (and-left (fitsOne s t) (fits a x) h) (fits-both a b x y (and-right (fitsOne s t) (fits a x) h) k)
+
+pub digits-fit : (n count : ℕ) → fits (digits 0 count) (digits n count) ≡ true
+digits-fit n zero = refl
+digits-fit n (suc count) =
+    fits-both (digits 0 count) (48 ∷ []) (digits (n / 10) count) ((48 + n % 10) ∷ []) (digits-fit (n / 10) count) (ap (λ t. t && true) (is-digit n))
+
+pub fits-nothing : (text : List ℕ) → fits [] text ≡ true → text ≡ []
+fits-nothing [] h = refl
+fits-nothing (b ∷ bs) h = no-both false h refl

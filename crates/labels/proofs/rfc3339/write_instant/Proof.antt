@@ -1,0 +1,70 @@
+use mathlib.Core.Path.{sym, ap, _∙_}
+use mir.Facts.{toZ-ofZ}
+use Rattle.refusal.specs.Outcome.{value}
+use Rattle.instant.specs.Answers.{fieldsOutcome, fieldsAnswer}
+use Rattle.labels.specs.Rfc3339.{labelOf, instantLabel}
+use Rattle.labels.proofs.Copy.{renamed, nothing-written}
+use Rattle.labels.proofs.Instants.{fields-narrow}
+use borrow.Author.Needs.{needs}
+use Rattle.labels.proofs.rfc3339.write_instant.Statement.{statement}
+use Rattle.labels.proofs.rfc3339.write_instant.Tie as tie
+use Rattle.labels.proofs.rfc3339.write_instant.Reads as reads
+use Rattle.labels.proofs.rfc3339.write_instant.Lts as lts
+use Rattle.instant.proofs.split_instant.Reads as split-instant-reads
+use Rattle.labels.proofs.buffer.put.Reads as put-reads
+use Rattle.labels.proofs.rfc3339.text_of.Reads as text-of-reads
+
+split-instant-requires : tie.Need-split-instant-requires
+split-instant-requires c κs = search needs
+
+enum-known-fields : tie.Need-enum-known-fields
+enum-known-fields c = search needs
+
+text-of-requires : tie.Need-text-of-requires
+text-of-requires c κs =
+    let s = c .before .before .before .before .before in
+    let g = c .before .fields .given in
+    let e = ap fieldsOutcome (sym (g .1)) ∙ c .before .before .before .split-instant .ensures ∙ ap fieldsAnswer (toZ-ofZ (s .fits .ms)) in
+    fields-narrow (s .args .ms) (g .0 .0) (sym e)
+
+slice-aggregate-put : tie.Need-slice-aggregate-put
+slice-aggregate-put c = search needs
+
+put-requires : tie.Need-put-requires
+put-requires c κs = search needs
+
+enum-known-r : tie.Need-enum-known-r
+enum-known-r c = search needs
+
+same-length : tie.Need-same-length
+same-length c = search needs
+
+returns : tie.Need-returns
+unfolding instantLabel
+returns c =
+    let s = c .before .before .before .before .before .before .before .before .before .before .before in
+    let g = c .before .before .before .before .before .before .before .fields .given in
+    let e = ap fieldsOutcome (sym (g .1)) ∙ c .before .before .before .before .before .before .before .before .before .split-instant .ensures ∙ ap fieldsAnswer (toZ-ofZ (s .fits .ms)) in
+    renamed (s .args .out .now) (ap value (c .before .before .before .before .before .text-of .ensures) ∙ ap labelOf e) (c .before .before .put .ensures)
+
+returns-2 : tie.Need-returns-2
+unfolding instantLabel
+returns-2 c =
+    let s = c .before .before .before .before .before in
+    let g = c .before .r .given in
+    let e = ap fieldsOutcome (sym (g .1)) ∙ c .before .before .before .split-instant .ensures ∙ ap fieldsAnswer (toZ-ofZ (s .fits .ms)) in
+    nothing-written (s .args .out .now) (ap labelOf e)
+
+pub write-instant-spec : {M : Type 1} → statement M
+write-instant-spec =
+    tie.close
+    (tie.spec
+    split-instant-requires
+    enum-known-fields
+    text-of-requires
+    slice-aggregate-put
+    put-requires
+    enum-known-r
+    same-length
+    returns
+    returns-2)

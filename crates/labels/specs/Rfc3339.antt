@@ -1,0 +1,63 @@
+-- Instant labels, `YYYY-MM-DDTHH:MM:SS.mmmZ`: document 01, "Instant label". The form is that of RFC 3339, section 5.6.
+-- The marks are 45 `-`, 84 `T`, 58 `:`, 46 `.` and 90 `Z`.
+use Prim.Native.Nat.{ℕ}
+use mathlib.Core.Bool.{cond}
+use mathlib.Core.List.{List, [], _∷_, _++_}
+use lib.IntN.{ℤ, pos, natAbs}
+use lib.ListN.{drop}
+use Rattle.refusal.specs.Numbers.{refusalNumber}
+use Rattle.refusal.specs.Outcome.{Outcome, value, refused, refusedAt}
+use Rattle.instant.specs.Answers.{fieldsAnswer, joinAnswer}
+use Rattle.instant.specs.declared.Fields.{Fields}
+use Rattle.labels.specs.Digits.{digits, numberAt, fits}
+use Rattle.labels.specs.declared.rfc3339.ReadAnswer.{ReadAnswer}
+use Rattle.labels.specs.declared.rfc3339.ReadAnswer.the-variants as R
+
+-- how many decimals the seconds have
+abbrev pub decimals : ℕ
+decimals = 3
+
+abbrev pub dateText : (year month day : ℕ) → List ℕ
+dateText year month day = digits year 4 ++ 45 ∷ digits month 2 ++ 45 ∷ digits day 2
+
+abbrev pub timeText : (decimals hour minute second fraction : ℕ) → List ℕ
+timeText decimals hour minute second fraction =
+    84 ∷ digits hour 2 ++ 58 ∷ digits minute 2 ++ 58 ∷ digits second 2 ++ 46 ∷ digits fraction decimals ++ 90 ∷ []
+
+-- the label of an instant's fields
+abbrev pub labelText : Fields → List ℕ
+labelText f =
+    dateText (natAbs (f .year)) (natAbs (f .month)) (natAbs (f .day))
+    ++ timeText decimals (natAbs (f .hour)) (natAbs (f .minute)) (natAbs (f .second)) (natAbs (f .millisecond))
+
+abbrev pub labelOf : Outcome Fields → Outcome (List ℕ)
+labelOf (value f) = value (labelText f)
+labelOf (refused n) = refused n
+labelOf (refusedAt n place) = refusedAt n place
+
+-- the label of an instant: that of its fields, or 4 for an instant outside the range
+unfoldable pub instantLabel : (ms : ℤ) → Outcome (List ℕ)
+instantLabel ms = labelOf (fieldsAnswer ms)
+
+-- the shape of a label is that of zeros: digits where these have digits, and the same marks
+abbrev pub dateShape : List ℕ
+dateShape = dateText 0 0 0
+
+abbrev pub timeShape : (decimals : ℕ) → List ℕ
+timeShape decimals = timeText decimals 0 0 0 0
+
+-- what each case of an answer hands back
+abbrev pub readOutcome : ReadAnswer → Outcome ℤ
+readOutcome (R.Value ms) = value ms
+readOutcome (R.Refused r) = refused (refusalNumber r)
+
+-- the instant of a date and of the time behind it
+abbrev pub readFields : (date time : List ℕ) → Outcome ℤ
+readFields date time =
+    joinAnswer (pos (numberAt 0 4 date)) (pos (numberAt 5 2 date)) (pos (numberAt 8 2 date)) (pos (numberAt 1 2 time)) (pos (numberAt 4 2 time))
+    (pos (numberAt 7 2 time)) (pos (numberAt 10 decimals time))
+
+-- 8 for a label of another shape: not 24 bytes, a non-digit where a digit stands, or a wrong mark; else what its fields make, where the
+-- time begins at byte 10
+unfoldable pub readAnswer : (label : List ℕ) → Outcome ℤ
+readAnswer label = cond (fits (dateShape ++ timeShape decimals) label) (readFields label (drop 10 label)) (refused 8)

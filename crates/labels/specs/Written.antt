@@ -1,0 +1,28 @@
+-- What the writers answer, and what the lent buffer holds then: document 01, "Both writers answer the number of bytes written, fill the
+-- front of the lent buffer and touch nothing behind their last byte", and "A refused call changes nothing lent".
+use Prim.Native.Nat.{ℕ}
+use mathlib.Core.Bool.{cond}
+use mathlib.Core.List.{List, _++_}
+use lib.Dec.{ltb}
+use lib.ListN.{length, drop}
+use Rattle.refusal.specs.Numbers.{refusalNumber}
+use Rattle.refusal.specs.Outcome.{Outcome, value, refused, refusedAt}
+use Rattle.labels.specs.declared.WriteAnswer.{WriteAnswer}
+use Rattle.labels.specs.declared.WriteAnswer.the-variants as W
+
+-- what each case of an answer hands back
+abbrev pub writeOutcome : WriteAnswer → Outcome ℕ
+writeOutcome (W.Written n) = value n
+writeOutcome (W.Refused r) = refused (refusalNumber r)
+
+-- the refusal of a label; else 7 for a buffer shorter than the label; else the number of bytes written
+abbrev pub writeAnswer : Outcome (List ℕ) → (buffer : List ℕ) → Outcome ℕ
+writeAnswer (value label) buffer = cond (ltb (length buffer) (length label)) (refused 7) (value (length label))
+writeAnswer (refused n) buffer = refused n
+writeAnswer (refusedAt n place) buffer = refusedAt n place
+
+-- the buffer after the call: the label in front and the rest as it was; all as it was on a refusal
+abbrev pub writtenBuffer : Outcome (List ℕ) → (buffer : List ℕ) → List ℕ
+writtenBuffer (value label) buffer = cond (ltb (length buffer) (length label)) buffer (label ++ drop (length label) buffer)
+writtenBuffer (refused n) buffer = buffer
+writtenBuffer (refusedAt n place) buffer = buffer

@@ -1,0 +1,53 @@
+-- What a range test that code has made says of the number.
+use Prim.Native.Nat.{ℕ, _≤_, _<_, _^_}
+use mathlib.Core.Path.{_≡_, refl, sym, ap, _∙_, subst}
+use mathlib.Core.Bool.{Bool, true, false}
+use native.Mathlib.Omega.{arith}
+use lib.IntN.{ℤ, pos, negsuc, natAbs, _+ℤ_}
+use lib.Dec.{T}
+use lib.Signed.{ltZ, nonNeg}
+use borrow.Author.Tests.{ltb-false, le-ltb}
+use mir.Syntax.{Width, w64}
+use mir.Val.{SFits, Fits}
+use mir.Facts.{toZ-ofZ}
+use Rattle.numbers.specs.Range.{outside}
+use Rattle.numbers.proofs.Integers.{no-both, outside-no, not-outside, lt-add}
+use Rattle.numbers.proofs.Machine.{read, cast-pos}
+
+-- the answer r of a test of a local, and what it was
+pub tested : (first last : ℤ) {z : ℤ} {r t : Bool} → SFits w64 z → r ≡ outside first last (read z) → r ≡ t → outside first last z ≡ t
+tested first last f e h = ap (outside first last) (sym (toZ-ofZ f)) ∙ sym e ∙ h
+
+-- a number between two that fit
+pub fits-between : (w : Width) (first last z : ℤ) → SFits w first → SFits w last → outside first last z ≡ false → SFits w z
+fits-between w first last z f g h = go first last z f g (outside-no first last z h .0) (outside-no first last z h .1)
+  where
+    go : (first last z : ℤ) → SFits w first → SFits w last → ltZ z first ≡ false → ltZ last z ≡ false → SFits w z
+    go first (pos b) (pos a) f g lo hi = record { sfits = omega (arith, g .sfits, ltb-false b a hi) }
+    go first (negsuc b) (pos a) f g lo hi = no-both true refl hi
+    go (pos b) last (negsuc a) f g lo hi = no-both true refl lo
+    go (negsuc b) last (negsuc a) f g lo hi = record { sfits = omega (arith, f .sfits, ltb-false b a lo) }
+
+-- a number in 0..k
+pub record Within (k : ℕ) (z : ℤ) : Type 0 where
+  pub is : z ≡ pos (natAbs z)
+  pub small : natAbs z ≤ k
+
+pub within : (k : ℕ) (z : ℤ) → outside (pos 0) (pos k) z ≡ false → Within k z
+within k (pos a) h = record { is = refl; small = ltb-false k a (outside-no (pos 0) (pos k) (pos a) h .1) }
+within k (negsuc a) h = no-both true refl (outside-no (pos 0) (pos k) (negsuc a) h .0)
+
+module _ {k : ℕ} {z : ℤ} (f : SFits w64 z) (t : Within k z) where
+  pub read-small : natAbs (read z) ≤ k
+  read-small = subst (λ (y : ℤ). natAbs y ≤ k) (sym (toZ-ofZ f)) (t .small)
+
+  pub cast-within : k < 2 ^ 64 → T (nonNeg (read z)) × Fits w64 (natAbs (read z))
+  cast-within h = let l = t .small in cast-pos w64 (natAbs z) (omega arith) (toZ-ofZ f ∙ t .is)
+
+-- numbers that lie in a range, as natural numbers and from any first number on
+pub inside-pos : (a b n : ℕ) → a ≤ n → n ≤ b → outside (pos a) (pos b) (pos n) ≡ false
+inside-pos a b n h k = not-outside (pos a) (pos b) (pos n) (le-ltb n a h) (le-ltb b n k)
+
+pub inside-from : (first : ℤ) (a b n : ℕ) → a ≤ n → n ≤ b → outside (first +ℤ pos a) (first +ℤ pos b) (first +ℤ pos n) ≡ false
+inside-from first a b n h k =
+    not-outside (first +ℤ pos a) (first +ℤ pos b) (first +ℤ pos n) (lt-add first n a ∙ le-ltb n a h) (lt-add first b n ∙ le-ltb b n k)
