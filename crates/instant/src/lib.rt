@@ -107,7 +107,7 @@ pub fn join_instant(
 {
     match calendar::days_from_civil(year, month, day) {
         calendar::NumberAnswer::Value(count) => {
-            match join_time(hour, minute, second, millisecond) {
+            match check_time(hour, minute, second, millisecond) {
                 NumberAnswer::Value(time) => NumberAnswer::Value(count * PER_DAY + time),
                 NumberAnswer::Refused(r) => NumberAnswer::Refused(r),
             }
@@ -116,8 +116,8 @@ pub fn join_instant(
     }
 }
 
-// The time of day of its fields.
-fn join_time(hour: i64, minute: i64, second: i64, millisecond: i64) -> NumberAnswer
+// The time of day of its fields, which are tested.
+fn check_time(hour: i64, minute: i64, second: i64, millisecond: i64) -> NumberAnswer
     ensures { λ r. ⌜ numberOutcome r ≡ timeAnswer hour minute second millisecond ⌝ }
 {
     if outside(0, 23, hour) {
@@ -133,11 +133,16 @@ fn join_time(hour: i64, minute: i64, second: i64, millisecond: i64) -> NumberAns
         return NumberAnswer::Refused(Refusal::TimeOutOfRange);
     }
     NumberAnswer::Value(
-        time_of(hour as u64, minute as u64, second as u64, millisecond as u64) as i64,
+        time_of_fields(
+            hour as u64,
+            minute as u64,
+            second as u64,
+            millisecond as u64,
+        ) as i64,
     )
 }
 
-fn time_of(hour: u64, minute: u64, second: u64, millisecond: u64) -> u64
+fn time_of_fields(hour: u64, minute: u64, second: u64, millisecond: u64) -> u64
     requires { ⌜ (hour ≤ 23) × ((minute ≤ 59) × ((second ≤ 59) × (millisecond < perSecond))) ⌝ }
     ensures { λ r. ⌜ (r ≡ hour * perHour + minute * perMinute + second * perSecond + millisecond) × (r < perDay) ⌝ }
 {

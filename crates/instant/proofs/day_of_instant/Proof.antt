@@ -10,10 +10,6 @@ use mathlib.Core.Path.{sym, ap, _∙_}
 use borrow.Author.Needs.{needs}
 use Rattle.instant.proofs.day_of_instant.Statement.{statement}
 use Rattle.instant.proofs.day_of_instant.Tie as tie
-use Rattle.instant.proofs.day_of_instant.Reads as reads
-use Rattle.instant.proofs.day_of_instant.Lts as lts
-use Rattle.instant.proofs.floored.day.Reads as day-reads
-use Rattle.instant.proofs.outside.Reads as outside-reads
 
 outside-requires : tie.Need-outside-requires
 outside-requires c κs = search needs

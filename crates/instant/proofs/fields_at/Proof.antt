@@ -2,16 +2,12 @@ use Rattle.instant.specs.Instant.{fieldsAt}
 use mir.Facts.{toZ-ofZ, toZ-pos}
 use mir.Val.{SFits}
 use mir.Syntax.{w64}
-use lib.IntN.{ℤ, pos}
 use Prim.Native.Nat.{_/_, _%_}
 use native.Mathlib.Omega.{arith}
 use borrow.Author.Needs.{needs}
-use Rattle.instant.specs.declared.Fields.{Fields}
 use Rattle.instant.specs.Units.{perSecond, perMinute, perHour}
 use Rattle.instant.proofs.fields_at.Statement.{statement}
 use Rattle.instant.proofs.fields_at.Tie as tie
-use Rattle.instant.proofs.fields_at.Reads as reads
-use Rattle.instant.proofs.fields_at.Lts as lts
 
 cast-t4 : tie.Need-cast-t4
 cast-t4 c = search needs

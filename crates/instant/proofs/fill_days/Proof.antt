@@ -15,9 +15,6 @@ use mathlib.Core.Path.{_≡_, refl, sym, ap, _∙_, subst}
 use borrow.Author.Needs.{needs}
 use Rattle.instant.proofs.fill_days.Statement.{statement}
 use Rattle.instant.proofs.fill_days.Tie as tie
-use Rattle.instant.proofs.fill_days.Reads as reads
-use Rattle.instant.proofs.fill_days.Lts as lts
-use Rattle.instant.proofs.floored.day.Reads as day-reads
 
 abbrev Inv-loop : tie.InvT-loop
 Inv-loop instants days₀ i₀ days i = (i ≤ length instants) × ((length days ≡ length days₀) × (days ≡ paste days₀ 0 (map dayOf instants) i))
@@ -62,10 +59,14 @@ loop-less c = search needs
 
 loop-again : tie.Need-loop-again Inv-loop μ-loop
 loop-again c = let s = c .before .before .before .before in
-    let l = c .before .before .before .loop in
-    (omega arith, (simp length-set (l .inv .1 .0),
-    ap (λ (d : List ℤ). set d (l .i) (toZ w32 (ofZ w32 (read (c .day .result))))) (l .inv .1 .1)
-    ∙ filled-one dayOf (s .args .instants .now) (s .args .days .now) (s .pre .0) (l .i) _ (omega arith) (toZ-ofZ (cast-days c) ∙ day-is c)))
+    let l = c .before .before .before .loop in (
+      omega arith,
+      (
+        simp length-set (l .inv .1 .0),
+        ap (λ (d : List ℤ). set d (l .i) (toZ w32 (ofZ w32 (read (c .day .result))))) (l .inv .1 .1)
+            ∙ filled-one dayOf (s .args .instants .now) (s .args .days .now) (s .pre .0) (l .i) _ (omega arith) (toZ-ofZ (cast-days c) ∙ day-is c),
+      ),
+    )
 
 same-length : tie.Need-same-length Inv-loop μ-loop
 same-length c = search needs

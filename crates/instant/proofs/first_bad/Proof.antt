@@ -8,13 +8,10 @@ use lib.IntN.{pos}
 use lib.ListN.{length, getD, drop}
 use Prim.Native.Nat.{_+_, _-_, _≤_}
 use native.Mathlib.Omega.{arith}
-use mathlib.Core.Path.{_≡_, refl}
+use mathlib.Core.Path.{_≡_}
 use borrow.Author.Needs.{needs}
 use Rattle.instant.proofs.first_bad.Statement.{statement}
 use Rattle.instant.proofs.first_bad.Tie as tie
-use Rattle.instant.proofs.first_bad.Reads as reads
-use Rattle.instant.proofs.first_bad.Lts as lts
-use Rattle.instant.proofs.outside.Reads as outside-reads
 
 abbrev Inv-loop : tie.InvT-loop
 Inv-loop instants i₀ i = (i ≤ length instants) × (firstBad instants ≡ i + firstBad (drop i instants))

@@ -1,17 +1,10 @@
 use Rattle.instant.proofs.Index.{bad-le, unequal, bad-found, none-found, held}
-use Rattle.instant.specs.Answers.{firstBad}
-use Rattle.refusal.specs.Outcome.{value, refused, refusedAt}
-use lib.ListN.{length}
-use Prim.Native.Nat.{ℕ, _≤_, _<_}
+use Rattle.refusal.specs.Outcome.{refusedAt}
 use native.Mathlib.Omega.{arith}
-use mathlib.Core.Path.{_≡_, sym, ap, _∙_, subst}
+use mathlib.Core.Path.{sym, ap, _∙_}
 use borrow.Author.Needs.{needs}
 use Rattle.instant.proofs.index_days.Statement.{statement}
 use Rattle.instant.proofs.index_days.Tie as tie
-use Rattle.instant.proofs.index_days.Reads as reads
-use Rattle.instant.proofs.index_days.Lts as lts
-use Rattle.instant.proofs.fill_days.Reads as fill-days-reads
-use Rattle.instant.proofs.first_bad.Reads as first-bad-reads
 
 returns : tie.Need-returns
 returns c = let a = c .before .args in

@@ -18,13 +18,6 @@ use mathlib.Core.Path.{_≡_, sym, ap, ap₂, _∙_, subst}
 use borrow.Author.Needs.{needs}
 use Rattle.instant.proofs.split_instant.Statement.{statement}
 use Rattle.instant.proofs.split_instant.Tie as tie
-use Rattle.instant.proofs.split_instant.Reads as reads
-use Rattle.instant.proofs.split_instant.Lts as lts
-use Rattle.calendar.proofs.civil_from_days.Reads as civil-from-days-reads
-use Rattle.instant.proofs.fields_at.Reads as fields-at-reads
-use Rattle.instant.proofs.floored.day.Reads as day-reads
-use Rattle.instant.proofs.floored.time.Reads as time-reads
-use Rattle.instant.proofs.outside.Reads as outside-reads
 
 outside-requires : tie.Need-outside-requires
 outside-requires c κs = search needs

@@ -1,7 +1,6 @@
 use Rattle.numbers.proofs.Mended.{borrowed}
 use mir.Facts.{toZ-ofZ}
-use lib.IntN.{ℤ, pos}
-use lib.Signed.{ltZ}
+use lib.IntN.{pos}
 use mathlib.Core.Bool.{cond}
 use mathlib.Core.Path.{sym, ap, _∙_}
 use Rattle.instant.proofs.floored.borrowed.Statement.{statement}

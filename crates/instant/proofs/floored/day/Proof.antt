@@ -5,13 +5,10 @@ use mir.Facts.{toZ-ofZ}
 use mir.Val.{SFits}
 use mir.Syntax.{w64}
 use lib.Dec.{lit<}
-use mathlib.Core.Path.{sym, ap, _∙_, subst}
+use mathlib.Core.Path.{sym, _∙_, subst}
 use borrow.Author.Needs.{needs}
 use Rattle.instant.proofs.floored.day.Statement.{statement}
 use Rattle.instant.proofs.floored.day.Tie as tie
-use Rattle.instant.proofs.floored.day.Reads as reads
-use Rattle.instant.proofs.floored.day.Lts as lts
-use Rattle.instant.proofs.floored.borrowed.Reads as borrowed-reads
 
 div-result : tie.Need-div-result
 div-result c = (lit< tt, divides (c .args .ms) perDay (c .fits .ms) (lit< tt))

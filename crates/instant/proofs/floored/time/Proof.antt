@@ -5,13 +5,10 @@ use mir.Facts.{toZ-ofZ}
 use mir.Val.{SFits}
 use mir.Syntax.{w64}
 use lib.Dec.{lit<}
-use mathlib.Core.Path.{sym, ap, _∙_, subst}
+use mathlib.Core.Path.{sym, _∙_, subst}
 use borrow.Author.Needs.{needs}
 use Rattle.instant.proofs.floored.time.Statement.{statement}
 use Rattle.instant.proofs.floored.time.Tie as tie
-use Rattle.instant.proofs.floored.time.Reads as reads
-use Rattle.instant.proofs.floored.time.Lts as lts
-use Rattle.instant.proofs.floored.borrowed.Reads as borrowed-reads
 
 rem-rest : tie.Need-rem-rest
 rem-rest c = (lit< tt, divides (c .args .ms) perDay (c .fits .ms) (lit< tt))
