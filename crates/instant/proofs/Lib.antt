@@ -1,6 +1,6 @@
 pub mod Ranges
 pub mod Times
 pub mod Joined
-pub mod Index
+pub mod Lists
 pub mod Dated
 pub mod Laws

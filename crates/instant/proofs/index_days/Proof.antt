@@ -1,4 +1,4 @@
-use Rattle.instant.proofs.Index.{bad-le, unequal, bad-found, none-found, held}
+use Rattle.instant.proofs.Lists.{bad-le, unequal, bad-found, none-found, held}
 use Rattle.refusal.specs.Outcome.{refusedAt}
 use native.Mathlib.Omega.{arith}
 use mathlib.Core.Path.{sym, ap, _∙_}

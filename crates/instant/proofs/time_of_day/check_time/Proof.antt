@@ -14,8 +14,8 @@ use native.Mathlib.Omega.{arith}
 use mathlib.Core.Bool.{false}
 use mathlib.Core.Path.{_≡_, sym, ap, _∙_}
 use borrow.Author.Needs.{needs}
-use Rattle.instant.proofs.check_time.Statement.{statement}
-use Rattle.instant.proofs.check_time.Tie as tie
+use Rattle.instant.proofs.time_of_day.check_time.Statement.{statement}
+use Rattle.instant.proofs.time_of_day.check_time.Tie as tie
 
 -- what the tests have shown, one after the other
 hour-inside : (c : tie.Else1) → outside (pos 0) (pos 23) (c .before .before .args .hour) ≡ false
