@@ -65,7 +65,9 @@ module _ (hour minute second fraction : ℤ) where
       pub time-decided : (k : ℕ) → refused k ≡ timeAnswer hour minute second fraction → refused k ≡ joinAnswer year month day hour minute second fraction
       time-decided k f = time-refused _ k f ∙ sym on-date
 
-      pub joined : badTime hour minute second fraction ≡ false → joinAnswer year month day hour minute second fraction ≡ value (count *ℤ pos perDay +ℤ timeOfFields hour minute second fraction)
+      pub joined :
+          badTime hour minute second fraction ≡ false →
+          joinAnswer year month day hour minute second fraction ≡ value (count *ℤ pos perDay +ℤ timeOfFields hour minute second fraction)
       joined h = on-date ∙ ap (λ t. cond t (refused 5) (value (count *ℤ pos perDay +ℤ timeOfFields hour minute second fraction))) h
 
 -- an accepted date and an accepted time, in locals

@@ -1,3 +1,4 @@
+-- Each way out is decided by the tests that led there.
 use Rattle.instant.proofs.Lists.{bad-le, unequal, bad-found, none-found, held}
 use Rattle.refusal.specs.Outcome.{refusedAt}
 use native.Mathlib.Omega.{arith}

@@ -1,3 +1,4 @@
+-- The date and the time are accepted or refused each by itself; accepted, their sum is in the range and fits.
 use Rattle.instant.proofs.Joined.{time-read, date-decided, time-decided, Both, multiplies, adds, answers}
 use Rattle.instant.specs.Answers.{numberOutcome}
 use Rattle.instant.specs.Checked.{timeAnswer}
@@ -23,7 +24,9 @@ enum-known-time : tie.Need-enum-known-time
 enum-known-time c = search needs
 
 -- what the two callees answered
-days-answer : (c : tie.After-days-from-civil) → calendar.numberOutcome (c .days-from-civil .result) ≡ calendar.daysAnswer (c .before .args .year) (c .before .args .month) (c .before .args .day)
+days-answer :
+    (c : tie.After-days-from-civil) →
+    calendar.numberOutcome (c .days-from-civil .result) ≡ calendar.daysAnswer (c .before .args .year) (c .before .args .month) (c .before .args .day)
 days-answer c = let f = c .before .fits in c .days-from-civil .ensures ∙ days-read (f .year) (f .month) (f .day)
 
 abbrev start : tie.After-check-time → tie.Start
@@ -32,7 +35,9 @@ start c = c .before .before .before .before .before
 days-of : (c : tie.After-check-time) → value (c .before .before .count .given .0 .0) ≡ calendar.daysAnswer (start c .args .year) (start c .args .month) (start c .args .day)
 days-of c = ap calendar.numberOutcome (sym (c .before .before .count .given .1)) ∙ days-answer (c .before .before .before .before)
 
-time-of : (c : tie.After-check-time) → numberOutcome (c .check-time .result) ≡ timeAnswer (start c .args .hour) (start c .args .minute) (start c .args .second) (start c .args .millisecond)
+time-of :
+    (c : tie.After-check-time) →
+    numberOutcome (c .check-time .result) ≡ timeAnswer (start c .args .hour) (start c .args .minute) (start c .args .second) (start c .args .millisecond)
 time-of c = let a = start c .args in
     let f = start c .fits in
     c .check-time .ensures ∙ time-read (a .hour) (a .minute) (a .second) (a .millisecond) (f .hour) (f .minute) (f .second) (f .millisecond)

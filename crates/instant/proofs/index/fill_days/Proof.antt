@@ -1,3 +1,4 @@
+-- The list is the days of the first i instants, and behind them what it held before.
 use Rattle.instant.specs.Instant.{dayOf}
 use Rattle.instant.proofs.Lists.{all-good, filled-one, filled}
 use Rattle.instant.proofs.Ranges.{day-fits}

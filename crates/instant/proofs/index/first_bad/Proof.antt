@@ -1,3 +1,4 @@
+-- The first bad place is i and the first bad place of what is left from i on.
 use Rattle.instant.specs.Answers.{firstBad}
 use Rattle.instant.specs.Units.{firstInstant, lastInstant}
 use Rattle.instant.proofs.Lists.{bad-end, bad-here, bad-later}

@@ -1,3 +1,4 @@
+-- Fields that pass the tests are small natural numbers.
 use Rattle.instant.proofs.Times.{Time, natural, timeℕ, time-is}
 use Rattle.instant.specs.Answers.{badTime}
 use Rattle.instant.specs.Checked.{timeAnswer}
