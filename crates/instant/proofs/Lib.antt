@@ -1,4 +1,5 @@
 pub mod Ranges
+pub mod Times
 pub mod Joined
-pub mod Index
+pub mod Lists
 pub mod Laws

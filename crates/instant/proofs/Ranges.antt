@@ -20,19 +20,19 @@ use Rattle.instant.specs.Units.{perDay, firstInstant, lastInstant}
 use Rattle.instant.specs.Instant.{dayOf, timeOf}
 use Rattle.instant.specs.Answers.{badInstant}
 
-pub day-inside : (ms : ℤ) → badInstant ms ≡ false → outside firstCount lastCount (dayOf ms) ≡ false
+pub day-inside : (instant : ℤ) → badInstant instant ≡ false → outside firstCount lastCount (dayOf instant) ≡ false
 unfolding dayOf
-day-inside ms h =
-    let t = outside-no firstInstant lastInstant ms h in
-    not-outside firstCount lastCount (dayOf ms) (quotient-monotone firstInstant ms perDay (lit< tt) (t .0)) (quotient-monotone ms lastInstant perDay (lit< tt) (t .1))
+day-inside instant h =
+    let t = outside-no firstInstant lastInstant instant h in
+    not-outside firstCount lastCount (dayOf instant) (quotient-monotone firstInstant instant perDay (lit< tt) (t .0)) (quotient-monotone instant lastInstant perDay (lit< tt) (t .1))
 
-pub day-fits : (ms : ℤ) → badInstant ms ≡ false → SFits w32 (dayOf ms)
-day-fits ms h =
-    fits-between w32 firstCount lastCount (dayOf ms) (record { sfits = lit< tt }) (record { sfits = lit< tt }) (day-inside ms h)
+pub day-fits : (instant : ℤ) → badInstant instant ≡ false → SFits w32 (dayOf instant)
+day-fits instant h =
+    fits-between w32 firstCount lastCount (dayOf instant) (record { sfits = lit< tt }) (record { sfits = lit< tt }) (day-inside instant h)
 
-pub time-below : (ms : ℤ) → timeOf ms < perDay
+pub time-below : (instant : ℤ) → timeOf instant < perDay
 unfolding timeOf
-time-below ms = remainder-below ms perDay (lit< tt)
+time-below instant = remainder-below instant perDay (lit< tt)
 
 -- the date of a count in the range
 pub dated : (z : ℤ) → outside firstCount lastCount z ≡ false → civilAnswer z ≡ value (dateOfCount z)

@@ -35,15 +35,15 @@ indexOutcome (I.Refused r) = refused (refusalNumber r)
 indexOutcome (I.RefusedAt r place) = refusedAt (refusalNumber r) place
 
 -- an instant outside the range
-abbrev pub badInstant : (ms : ℤ) → Bool
-badInstant ms = outside firstInstant lastInstant ms
+abbrev pub badInstant : (instant : ℤ) → Bool
+badInstant instant = outside firstInstant lastInstant instant
 
 -- 4 for an instant outside the range
-unfoldable pub dayAnswer : (ms : ℤ) → Outcome ℤ
-dayAnswer ms = cond (badInstant ms) (refused 4) (value (dayOf ms))
+unfoldable pub dayAnswer : (instant : ℤ) → Outcome ℤ
+dayAnswer instant = cond (badInstant instant) (refused 4) (value (dayOf instant))
 
-unfoldable pub fieldsAnswer : (ms : ℤ) → Outcome Fields
-fieldsAnswer ms = cond (badInstant ms) (refused 4) (value (fieldsOf ms))
+unfoldable pub fieldsAnswer : (instant : ℤ) → Outcome Fields
+fieldsAnswer instant = cond (badInstant instant) (refused 4) (value (fieldsOf instant))
 
 -- an hour outside 0..23, a minute or second outside 0..59, or a millisecond outside 0..999
 abbrev pub badTime : (hour minute second millisecond : ℤ) → Bool
@@ -60,7 +60,7 @@ joinAnswer year month day hour minute second millisecond =
 -- the place, from 0, of the first instant outside the range; the length where there is none
 unfoldable pub firstBad : (instants : List ℤ) → ℕ
 firstBad [] = 0
-firstBad (ms ∷ instants) = cond (badInstant ms) 0 (suc (firstBad instants))
+firstBad (instant ∷ instants) = cond (badInstant instant) 0 (suc (firstBad instants))
 
 -- 12 for lists of unequal length, then 4 with the place of the first instant outside the range; else how many days are written
 unfoldable pub indexAnswer : (instants days : List ℤ) → Outcome ℕ

@@ -8,29 +8,26 @@ use Rattle.instant.specs.Units.{perSecond, perMinute, perHour, perDay}
 use Rattle.instant.specs.declared.Fields.{Fields}
 
 -- the day: the quotient, rounded toward minus infinity, also below zero
-unfoldable pub dayOf : (ms : ℤ) → ℤ
-dayOf ms = floorQuotient ms perDay
+unfoldable pub dayOf : (instant : ℤ) → ℤ
+dayOf instant = floorQuotient instant perDay
 
 -- the time of day: the remainder, from 0 to one less than a day
-unfoldable pub timeOf : (ms : ℤ) → ℕ
-timeOf ms = floorRemainder ms perDay
+unfoldable pub timeOf : (instant : ℤ) → ℕ
+timeOf instant = floorRemainder instant perDay
+
+abbrev pub fields : (year month day hour minute second millisecond : ℤ) → Fields
+fields year month day hour minute second millisecond =
+    record { year = year; month = month; day = day; hour = hour; minute = minute; second = second; millisecond = millisecond }
 
 -- a date and a time of day as fields
 unfoldable pub fieldsAt : Date → (time : ℕ) → Fields
 fieldsAt d time =
-    record {
-      year = d .year;
-      month = d .month;
-      day = d .day;
-      hour = pos (time / perHour);
-      minute = pos (time % perHour / perMinute);
-      second = pos (time % perMinute / perSecond);
-      millisecond = pos (time % perSecond);
-    }
+    fields (d .year) (d .month) (d .day) (pos (time / perHour)) (pos (time % perHour / perMinute)) (pos (time % perMinute / perSecond))
+    (pos (time % perSecond))
 
 -- the fields of an instant
-unfoldable pub fieldsOf : (ms : ℤ) → Fields
-fieldsOf ms = fieldsAt (dateOfCount (dayOf ms)) (timeOf ms)
+unfoldable pub fieldsOf : (instant : ℤ) → Fields
+fieldsOf instant = fieldsAt (dateOfCount (dayOf instant)) (timeOf instant)
 
 -- the time of day of its fields
 unfoldable pub timeOfFields : (hour minute second millisecond : ℤ) → ℤ

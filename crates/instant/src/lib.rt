@@ -5,28 +5,20 @@
 //     join_instant(year, month, day, hour, minute, second, millisecond)         instant         refusals 1, 2, 3, then 5
 //     index_days(instants, days)                                                days written    refusals 12, then 4 with the place
 
-use calendar::Date;
 use calendar::DateAnswer;
 use refusal::Refusal;
 use units::FIRST_INSTANT;
 use units::LAST_INSTANT;
 use units::PER_DAY;
-use units::PER_HOUR;
-use units::PER_MINUTE;
-use units::PER_SECOND;
 
 mod floored;
+mod index;
+mod range;
+mod time_of_day;
 mod units;
 
 ghost use mathlib.Core.Path.{_≡_};
-ghost use Prim.Native.Nat.{_+_, _*_, _≤_, _<_};
-ghost use mathlib.Core.List.{map};
-ghost use lib.ListN.{length};
-ghost use Rattle.numbers.specs.Range as range;
-ghost use Rattle.instant.specs.Units.{perSecond, perMinute, perHour, perDay};
-ghost use Rattle.instant.specs.Instant.{dayOf, fieldsAt};
-ghost use Rattle.instant.specs.Answers.{numberOutcome, fieldsOutcome, indexOutcome, dayAnswer, fieldsAnswer, joinAnswer, firstBad, indexAnswer, indexDays};
-ghost use Rattle.instant.specs.Checked.{timeAnswer};
+ghost use Rattle.instant.specs.Answers.{numberOutcome, fieldsOutcome, indexOutcome, dayAnswer, fieldsAnswer, joinAnswer, indexAnswer, indexDays};
 
 pub struct Fields {
     pub year: i64,
@@ -58,7 +50,7 @@ pub enum IndexAnswer {
 pub fn day_of_instant(ms: i64) -> NumberAnswer
     ensures { λ r. ⌜ numberOutcome r ≡ dayAnswer ms ⌝ }
 {
-    if outside(FIRST_INSTANT, LAST_INSTANT, ms) {
+    if range::outside(FIRST_INSTANT, LAST_INSTANT, ms) {
         return NumberAnswer::Refused(Refusal::OutOfRange);
     }
     NumberAnswer::Value(floored::day(ms))
@@ -68,28 +60,15 @@ pub fn day_of_instant(ms: i64) -> NumberAnswer
 pub fn split_instant(ms: i64) -> FieldsAnswer
     ensures { λ r. ⌜ fieldsOutcome r ≡ fieldsAnswer ms ⌝ }
 {
-    if outside(FIRST_INSTANT, LAST_INSTANT, ms) {
+    if range::outside(FIRST_INSTANT, LAST_INSTANT, ms) {
         return FieldsAnswer::Refused(Refusal::OutOfRange);
     }
     match calendar::civil_from_days(floored::day(ms)) {
-        DateAnswer::Value(date) => FieldsAnswer::Value(fields_at(date, floored::time(ms) as u64)),
+        DateAnswer::Value(date) => FieldsAnswer::Value(time_of_day::fields_at(
+            date,
+            floored::time(ms) as u64,
+        )),
         DateAnswer::Refused(r) => FieldsAnswer::Refused(r),
-    }
-}
-
-// The fields of a date and a time of day.
-fn fields_at(date: Date, time: u64) -> Fields
-    requires { ⌜ time < perDay ⌝ }
-    ensures { λ r. ⌜ r ≡ fieldsAt date time ⌝ }
-{
-    Fields {
-        year: date.year,
-        month: date.month,
-        day: date.day,
-        hour: (time / PER_HOUR) as i64,
-        minute: (time % PER_HOUR / PER_MINUTE) as i64,
-        second: (time % PER_MINUTE / PER_SECOND) as i64,
-        millisecond: (time % PER_SECOND) as i64,
     }
 }
 
@@ -107,46 +86,13 @@ pub fn join_instant(
 {
     match calendar::days_from_civil(year, month, day) {
         calendar::NumberAnswer::Value(count) => {
-            match join_time(hour, minute, second, millisecond) {
+            match time_of_day::check_time(hour, minute, second, millisecond) {
                 NumberAnswer::Value(time) => NumberAnswer::Value(count * PER_DAY + time),
                 NumberAnswer::Refused(r) => NumberAnswer::Refused(r),
             }
         }
         calendar::NumberAnswer::Refused(r) => NumberAnswer::Refused(r),
     }
-}
-
-// The time of day of its fields.
-fn join_time(hour: i64, minute: i64, second: i64, millisecond: i64) -> NumberAnswer
-    ensures { λ r. ⌜ numberOutcome r ≡ timeAnswer hour minute second millisecond ⌝ }
-{
-    if outside(0, 23, hour) {
-        return NumberAnswer::Refused(Refusal::TimeOutOfRange);
-    }
-    if outside(0, 59, minute) {
-        return NumberAnswer::Refused(Refusal::TimeOutOfRange);
-    }
-    if outside(0, 59, second) {
-        return NumberAnswer::Refused(Refusal::TimeOutOfRange);
-    }
-    if outside(0, PER_SECOND as i64 - 1, millisecond) {
-        return NumberAnswer::Refused(Refusal::TimeOutOfRange);
-    }
-    NumberAnswer::Value(
-        time_of(
-            hour as u64,
-            minute as u64,
-            second as u64,
-            millisecond as u64,
-        ) as i64,
-    )
-}
-
-fn time_of(hour: u64, minute: u64, second: u64, millisecond: u64) -> u64
-    requires { ⌜ (hour ≤ 23) × ((minute ≤ 59) × ((second ≤ 59) × (millisecond < perSecond))) ⌝ }
-    ensures { λ r. ⌜ (r ≡ hour * perHour + minute * perMinute + second * perSecond + millisecond) × (r < perDay) ⌝ }
-{
-    hour * PER_HOUR + minute * PER_MINUTE + second * PER_SECOND + millisecond
 }
 
 // Writes the day count of each instant, and answers how many; refused, it writes nothing.
@@ -158,42 +104,10 @@ pub fn index_days(instants: &[i64], days: &mut [i32]) -> IndexAnswer
     if count != days.len() {
         return IndexAnswer::Refused(Refusal::UnequalLengths);
     }
-    let place = first_bad(instants);
+    let place = index::first_bad(instants);
     if place < count {
         return IndexAnswer::RefusedAt(Refusal::OutOfRange, place);
     }
-    fill_days(instants, days);
+    index::fill_days(instants, days);
     IndexAnswer::Written(count)
-}
-
-// The place of the first instant outside the range, or the length where there is none.
-fn first_bad(instants: &[i64]) -> usize
-    ensures { λ r. ⌜ r ≡ firstBad (now (instants .entry)) ⌝ }
-{
-    let mut i = 0;
-    while i < instants.len() {
-        if outside(FIRST_INSTANT, LAST_INSTANT, instants[i]) {
-            return i;
-        }
-        i += 1;
-    }
-    i
-}
-
-fn fill_days(instants: &[i64], days: &mut [i32])
-    requires { ⌜ (length (now instants) ≡ length (now days)) × (firstBad (now instants) ≡ length (now instants)) ⌝ }
-    ensures { λ r. ⌜ now (days .exit) ≡ map dayOf (now (instants .entry)) ⌝ }
-{
-    let mut i = 0;
-    while i < instants.len() {
-        days[i] = floored::day(instants[i]) as i32;
-        i += 1;
-    }
-}
-
-// Whether x lies outside first..last.
-fn outside(first: i64, last: i64, x: i64) -> bool
-    ensures { λ r. ⌜ r ≡ range.outside first last x ⌝ }
-{
-    x < first || x > last
 }

@@ -1,8 +1,8 @@
 -- A quotient toward zero that is mended where the remainder is below zero is the floored one, and so is the remainder.
-use Prim.Native.Nat.{ℕ, zero, suc, _+_, _-_, _*_, _/_, _%_, _≤_, _<_, _^_}
-use mathlib.Core.Path.{_≡_, refl, sym, ap, ap₂, _∙_, subst}
+use Prim.Native.Nat.{ℕ, zero, suc, _-_, _*_, _/_, _%_, _≤_, _<_, _^_}
+use mathlib.Core.Path.{_≡_, sym, ap, ap₂, _∙_, subst}
 use mathlib.Core.Bool.{Bool, true, false, cond}
-use native.Mathlib.Nat.{div-add-mod', mod-lt, mod-eq-of-lt, suc-mod, mod-self, div-eq-of-lt-le, div-le-self, div-one}
+use native.Mathlib.Nat.{div-add-mod', mod-lt, mod-eq-of-lt, suc-mod, mod-self, div-eq-of-lt-le, div-le-self}
 use native.Mathlib.Decide.{decLt}
 use native.Mathlib.Omega.{arith}
 use lib.IntN.{ℤ, pos, negsuc, negℤ, _+ℤ_, _-ℤ_, _*ℤ_, +ℤ-idr}

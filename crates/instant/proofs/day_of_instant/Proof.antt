@@ -1,12 +1,12 @@
 use Rattle.instant.specs.Answers.{dayAnswer}
 use Rattle.instant.specs.Instant.{dayOf}
 use Rattle.instant.specs.Units.{firstInstant, lastInstant}
-use Rattle.numbers.specs.Range.{outside}
+use Rattle.numbers.proofs.Between.{tested}
 use Rattle.refusal.specs.Outcome.{value}
 use mir.Facts.{toZ-ofZ}
 use mir.Val.{SFits}
 use mir.Syntax.{w64}
-use mathlib.Core.Path.{sym, ap, _∙_}
+use mathlib.Core.Path.{ap, _∙_}
 use borrow.Author.Needs.{needs}
 use Rattle.instant.proofs.day_of_instant.Statement.{statement}
 use Rattle.instant.proofs.day_of_instant.Tie as tie
@@ -16,8 +16,7 @@ outside-requires c κs = search needs
 
 returns : tie.Need-returns
 unfolding dayAnswer
-returns c = let s = c .before .before in
-    rw (ap (outside firstInstant lastInstant) (sym (toZ-ofZ (s .fits .ms))) ∙ sym (c .before .outside .ensures) ∙ c .if1 .taken)
+returns c = rw (tested firstInstant lastInstant (c .before .before .fits .ms) (c .before .outside .ensures) (c .if1 .taken))
 
 day-requires : tie.Need-day-requires
 day-requires c κs = search needs
@@ -26,7 +25,7 @@ returns-2 : tie.Need-returns-2
 unfolding dayAnswer
 returns-2 c = let s = c .before .before .before in
     let g : SFits w64 (c .day .result) = search needs in
-    rw (ap (outside firstInstant lastInstant) (sym (toZ-ofZ (s .fits .ms))) ∙ sym (c .before .before .outside .ensures) ∙ c .before .if1 .left)
+    rw (tested firstInstant lastInstant (s .fits .ms) (c .before .before .outside .ensures) (c .before .if1 .left))
     (ap value (toZ-ofZ g ∙ c .day .ensures ∙ ap dayOf (toZ-ofZ (s .fits .ms))))
 
 pub day-of-instant-spec : {M : Type 1} → statement M

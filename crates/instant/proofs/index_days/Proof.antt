@@ -1,4 +1,5 @@
-use Rattle.instant.proofs.Index.{bad-le, unequal, bad-found, none-found, held}
+-- Each way out is decided by the tests that led there.
+use Rattle.instant.proofs.Lists.{bad-le, unequal, bad-found, none-found, held}
 use Rattle.refusal.specs.Outcome.{refusedAt}
 use native.Mathlib.Omega.{arith}
 use mathlib.Core.Path.{sym, ap, _∙_}

@@ -1,3 +1,4 @@
+-- The date and the time are accepted or refused each by itself; accepted, their sum is in the range and fits.
 use Rattle.instant.proofs.Joined.{time-read, date-decided, time-decided, Both, multiplies, adds, answers}
 use Rattle.instant.specs.Answers.{numberOutcome}
 use Rattle.instant.specs.Checked.{timeAnswer}
@@ -16,26 +17,30 @@ days-from-civil-requires c κs = search needs
 enum-known-count : tie.Need-enum-known-count
 enum-known-count c = search needs
 
-join-time-requires : tie.Need-join-time-requires
-join-time-requires c κs = search needs
+check-time-requires : tie.Need-check-time-requires
+check-time-requires c κs = search needs
 
 enum-known-time : tie.Need-enum-known-time
 enum-known-time c = search needs
 
 -- what the two callees answered
-days-answer : (c : tie.After-days-from-civil) → calendar.numberOutcome (c .days-from-civil .result) ≡ calendar.daysAnswer (c .before .args .year) (c .before .args .month) (c .before .args .day)
+days-answer :
+    (c : tie.After-days-from-civil) →
+    calendar.numberOutcome (c .days-from-civil .result) ≡ calendar.daysAnswer (c .before .args .year) (c .before .args .month) (c .before .args .day)
 days-answer c = let f = c .before .fits in c .days-from-civil .ensures ∙ days-read (f .year) (f .month) (f .day)
 
-abbrev start : tie.After-join-time → tie.Start
+abbrev start : tie.After-check-time → tie.Start
 start c = c .before .before .before .before .before
 
-days-of : (c : tie.After-join-time) → value (c .before .before .count .given .0 .0) ≡ calendar.daysAnswer (start c .args .year) (start c .args .month) (start c .args .day)
+days-of : (c : tie.After-check-time) → value (c .before .before .count .given .0 .0) ≡ calendar.daysAnswer (start c .args .year) (start c .args .month) (start c .args .day)
 days-of c = ap calendar.numberOutcome (sym (c .before .before .count .given .1)) ∙ days-answer (c .before .before .before .before)
 
-time-of : (c : tie.After-join-time) → numberOutcome (c .join-time .result) ≡ timeAnswer (start c .args .hour) (start c .args .minute) (start c .args .second) (start c .args .millisecond)
+time-of :
+    (c : tie.After-check-time) →
+    numberOutcome (c .check-time .result) ≡ timeAnswer (start c .args .hour) (start c .args .minute) (start c .args .second) (start c .args .millisecond)
 time-of c = let a = start c .args in
     let f = start c .fits in
-    c .join-time .ensures ∙ time-read (a .hour) (a .minute) (a .second) (a .millisecond) (f .hour) (f .minute) (f .second) (f .millisecond)
+    c .check-time .ensures ∙ time-read (a .hour) (a .minute) (a .second) (a .millisecond) (f .hour) (f .minute) (f .second) (f .millisecond)
 
 both : (c : tie.After-known-told2) → let k = c .before .before .before in
     let a = start k .args in
@@ -81,7 +86,7 @@ join-instant-spec =
     (tie.spec
     days-from-civil-requires
     enum-known-count
-    join-time-requires
+    check-time-requires
     enum-known-time
     mul-t16
     add-t17

@@ -1,3 +1,4 @@
+-- The day of an instant in the range is in the calendar's range, so the calendar answers its date.
 use Rattle.instant.proofs.Ranges.{day-inside, time-below, dated}
 use Rattle.instant.specs.Answers.{fieldsAnswer, badInstant}
 use Rattle.instant.specs.Instant.{dayOf, timeOf, fieldsAt, fieldsOf}

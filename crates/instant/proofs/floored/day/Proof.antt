@@ -1,3 +1,4 @@
+-- The quotient toward zero, mended, is the floored one.
 use Rattle.numbers.proofs.Mended.{divides, floored, floored-fits}
 use Rattle.instant.specs.Units.{perDay}
 use Rattle.instant.specs.Instant.{dayOf}

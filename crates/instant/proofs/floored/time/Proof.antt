@@ -1,3 +1,4 @@
+-- The remainder toward zero, mended, is the floored one.
 use Rattle.numbers.proofs.Mended.{divides, multiplies, remains, remains-fits}
 use Rattle.instant.specs.Units.{perDay}
 use Rattle.instant.specs.Instant.{timeOf}

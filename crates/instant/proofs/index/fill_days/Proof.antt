@@ -1,5 +1,6 @@
+-- The list is the days of the first i instants, and behind them what it held before.
 use Rattle.instant.specs.Instant.{dayOf}
-use Rattle.instant.proofs.Index.{all-good, filled-one, filled}
+use Rattle.instant.proofs.Lists.{all-good, filled-one, filled}
 use Rattle.instant.proofs.Ranges.{day-fits}
 use Rattle.numbers.proofs.Machine.{read}
 use mir.Facts.{toZ-ofZ}
@@ -13,8 +14,8 @@ use native.Mathlib.Omega.{arith}
 use mathlib.Core.List.{List, map}
 use mathlib.Core.Path.{_≡_, refl, sym, ap, _∙_, subst}
 use borrow.Author.Needs.{needs}
-use Rattle.instant.proofs.fill_days.Statement.{statement}
-use Rattle.instant.proofs.fill_days.Tie as tie
+use Rattle.instant.proofs.index.fill_days.Statement.{statement}
+use Rattle.instant.proofs.index.fill_days.Tie as tie
 
 abbrev Inv-loop : tie.InvT-loop
 Inv-loop instants days₀ i₀ days i = (i ≤ length instants) × ((length days ≡ length days₀) × (days ≡ paste days₀ 0 (map dayOf instants) i))

@@ -6,8 +6,8 @@ use Prim.Native.Nat.{_/_, _%_}
 use native.Mathlib.Omega.{arith}
 use borrow.Author.Needs.{needs}
 use Rattle.instant.specs.Units.{perSecond, perMinute, perHour}
-use Rattle.instant.proofs.fields_at.Statement.{statement}
-use Rattle.instant.proofs.fields_at.Tie as tie
+use Rattle.instant.proofs.time_of_day.fields_at.Statement.{statement}
+use Rattle.instant.proofs.time_of_day.fields_at.Tie as tie
 
 cast-t4 : tie.Need-cast-t4
 cast-t4 c = search needs

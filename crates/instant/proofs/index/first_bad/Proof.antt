@@ -1,6 +1,7 @@
+-- The first bad place is i and the first bad place of what is left from i on.
 use Rattle.instant.specs.Answers.{firstBad}
 use Rattle.instant.specs.Units.{firstInstant, lastInstant}
-use Rattle.instant.proofs.Index.{bad-end, bad-here, bad-later}
+use Rattle.instant.proofs.Lists.{bad-end, bad-here, bad-later}
 use Rattle.numbers.proofs.Between.{tested}
 use mir.Val.{SFits}
 use mir.Syntax.{w64}
@@ -10,8 +11,8 @@ use Prim.Native.Nat.{_+_, _-_, _≤_}
 use native.Mathlib.Omega.{arith}
 use mathlib.Core.Path.{_≡_}
 use borrow.Author.Needs.{needs}
-use Rattle.instant.proofs.first_bad.Statement.{statement}
-use Rattle.instant.proofs.first_bad.Tie as tie
+use Rattle.instant.proofs.index.first_bad.Statement.{statement}
+use Rattle.instant.proofs.index.first_bad.Tie as tie
 
 abbrev Inv-loop : tie.InvT-loop
 Inv-loop instants i₀ i = (i ≤ length instants) × (firstBad instants ≡ i + firstBad (drop i instants))

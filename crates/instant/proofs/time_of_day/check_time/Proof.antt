@@ -1,4 +1,5 @@
-use Rattle.instant.proofs.Joined.{Time, natural, timeℕ, time-is}
+-- Fields that pass the tests are small natural numbers.
+use Rattle.instant.proofs.Times.{Time, natural, timeℕ, time-is}
 use Rattle.instant.specs.Answers.{badTime}
 use Rattle.instant.specs.Checked.{timeAnswer}
 use Rattle.instant.specs.Units.{perSecond, perMinute, perHour}
@@ -14,8 +15,8 @@ use native.Mathlib.Omega.{arith}
 use mathlib.Core.Bool.{false}
 use mathlib.Core.Path.{_≡_, sym, ap, _∙_}
 use borrow.Author.Needs.{needs}
-use Rattle.instant.proofs.join_time.Statement.{statement}
-use Rattle.instant.proofs.join_time.Tie as tie
+use Rattle.instant.proofs.time_of_day.check_time.Statement.{statement}
+use Rattle.instant.proofs.time_of_day.check_time.Tie as tie
 
 -- what the tests have shown, one after the other
 hour-inside : (c : tie.Else1) → outside (pos 0) (pos 23) (c .before .before .args .hour) ≡ false
@@ -80,22 +81,22 @@ inside c = let d = c .before .before in
 time : (c : tie.Else4) → Time (start c .args .hour) (start c .args .minute) (start c .args .second) (start c .args .millisecond)
 time c = natural (start c .args .hour) (start c .args .minute) (start c .args .second) (start c .args .millisecond) (inside c)
 
-cast-time-of : tie.Need-cast-time-of
-cast-time-of c = cast-within (start c .fits .hour) (time c .hour-within) (lit< tt)
+cast-time-of-fields : tie.Need-cast-time-of-fields
+cast-time-of-fields c = cast-within (start c .fits .hour) (time c .hour-within) (lit< tt)
 
-cast-time-of-2 : tie.Need-cast-time-of-2
-cast-time-of-2 c = cast-within (start c .fits .minute) (time c .minute-within) (lit< tt)
+cast-time-of-fields-2 : tie.Need-cast-time-of-fields-2
+cast-time-of-fields-2 c = cast-within (start c .fits .minute) (time c .minute-within) (lit< tt)
 
-cast-time-of-3 : tie.Need-cast-time-of-3
-cast-time-of-3 c = cast-within (start c .fits .second) (time c .second-within) (lit< tt)
+cast-time-of-fields-3 : tie.Need-cast-time-of-fields-3
+cast-time-of-fields-3 c = cast-within (start c .fits .second) (time c .second-within) (lit< tt)
 
-cast-time-of-4 : tie.Need-cast-time-of-4
-cast-time-of-4 c = cast-within (start c .fits .millisecond) (time c .last-within) (lit< tt)
+cast-time-of-fields-4 : tie.Need-cast-time-of-fields-4
+cast-time-of-fields-4 c = cast-within (start c .fits .millisecond) (time c .fraction-within) (lit< tt)
 
-time-of-requires : tie.Need-time-of-requires
-time-of-requires c κs = let f = start c .fits in (
+time-of-fields-requires : tie.Need-time-of-fields-requires
+time-of-fields-requires c κs = let f = start c .fits in (
   read-small (f .hour) (time c .hour-within),
-  (read-small (f .minute) (time c .minute-within), (read-small (f .second) (time c .second-within), omega (arith, read-small (f .millisecond) (time c .last-within)))),
+  (read-small (f .minute) (time c .minute-within), (read-small (f .second) (time c .second-within), omega (arith, read-small (f .millisecond) (time c .fraction-within)))),
 )
 
 cast-t12 : tie.Need-cast-t12
@@ -105,14 +106,14 @@ returns-5 : tie.Need-returns-5
 unfolding timeAnswer timeℕ
 returns-5 c = let f = start (c .before) .fits in
     let a = start (c .before) .args in
-    let e : c .time-of .result ≡ timeℕ (a .hour) (a .minute) (a .second) (a .millisecond) =
-    c .time-of .ensures .0
+    let e : c .time-of-fields .result ≡ timeℕ (a .hour) (a .minute) (a .second) (a .millisecond) =
+    c .time-of-fields .ensures .0
     ∙ (λ i. natAbs (toZ-ofZ (f .hour) i) * perHour + natAbs (toZ-ofZ (f .minute) i) * perMinute + natAbs (toZ-ofZ (f .second) i) * perSecond + natAbs (toZ-ofZ (f .millisecond) i)) in
     rw (inside (c .before))
-    (ap value (toZ-pos w64 (omega (arith, c .time-of .ensures .1)) ∙ ap pos e ∙ sym (time-is (a .hour) (a .minute) (a .second) (a .millisecond) (time (c .before)))))
+    (ap value (toZ-pos w64 (omega (arith, c .time-of-fields .ensures .1)) ∙ ap pos e ∙ sym (time-is (a .hour) (a .minute) (a .second) (a .millisecond) (time (c .before)))))
 
-pub join-time-spec : {M : Type 1} → statement M
-join-time-spec =
+pub check-time-spec : {M : Type 1} → statement M
+check-time-spec =
     tie.close
     (tie.spec
     outside-requires
@@ -125,10 +126,10 @@ join-time-spec =
     sub-outside
     outside-requires-4
     returns-4
-    cast-time-of
-    cast-time-of-2
-    cast-time-of-3
-    cast-time-of-4
-    time-of-requires
+    cast-time-of-fields
+    cast-time-of-fields-2
+    cast-time-of-fields-3
+    cast-time-of-fields-4
+    time-of-fields-requires
     cast-t12
     returns-5)

@@ -36,7 +36,7 @@ module _ (s : List ℤ) (i : ℕ) where
 pub bad-le : (s : List ℤ) → firstBad s ≤ length s
 unfolding firstBad
 bad-le [] = omega arith
-bad-le (ms ∷ s) = go (badInstant ms) (bad-le s)
+bad-le (instant ∷ s) = go (badInstant instant) (bad-le s)
   where
     go : (t : Bool) → firstBad s ≤ length s → cond t 0 (suc (firstBad s)) ≤ suc (length s)
     go true h = omega arith
@@ -49,8 +49,8 @@ none-here false m n e = (refl, omega arith)
 pub all-good : (s : List ℤ) → firstBad s ≡ length s → (k : ℕ) → k < length s → badInstant (getD s k (pos 0)) ≡ false
 unfolding firstBad
 all-good [] e k l = absurd (omega arith)
-all-good (ms ∷ s) e zero l = none-here (badInstant ms) (firstBad s) (length s) e .0
-all-good (ms ∷ s) e (suc k) l = all-good s (none-here (badInstant ms) (firstBad s) (length s) e .1) k (omega arith)
+all-good (instant ∷ s) e zero l = none-here (badInstant instant) (firstBad s) (length s) e .0
+all-good (instant ∷ s) e (suc k) l = all-good s (none-here (badInstant instant) (firstBad s) (length s) e .1) k (omega arith)
 
 -- what the tests of the index decide
 module _ (instants days : List ℤ) where

@@ -1,0 +1,77 @@
+-- The time of day and its fields, in natural numbers.
+use Prim.Native.Nat.{ℕ, _+_, _-_, _*_, _/_, _%_, _<_}
+use mathlib.Core.Path.{_≡_, refl, sym, ap, ap₂, _∙_}
+use mathlib.Core.Bool.{Bool, true, false, _||_}
+use native.Mathlib.Omega.{arith}
+use lib.IntN.{ℤ, pos, natAbs}
+use Rattle.numbers.specs.Range.{outside}
+use Rattle.numbers.proofs.Between.{Within, within, inside-pos}
+use Rattle.numbers.proofs.Integers.{no-both}
+use Rattle.calendar.specs.declared.Date.{Date}
+use Rattle.instant.specs.Units.{perSecond, perMinute, perHour, perDay}
+use Rattle.instant.specs.Instant.{fields, fieldsAt, timeOfFields}
+use Rattle.instant.specs.Answers.{badTime}
+
+-- the fields of a time of day in natural numbers
+pub record Time (hour minute second fraction : ℤ) : Type 0 where
+  pub hour-within : Within 23 hour
+  pub minute-within : Within 59 minute
+  pub second-within : Within 59 second
+  pub fraction-within : Within (perSecond - 1) fraction
+
+or-no : (a b : Bool) → (a || b) ≡ false → (a ≡ false) × (b ≡ false)
+or-no true b h = no-both true refl h
+or-no false b h = (refl, h)
+
+module _ (hour minute second fraction : ℤ) where
+  pub natural : badTime hour minute second fraction ≡ false → Time hour minute second fraction
+  natural e =
+      let a = or-no (outside (pos 0) (pos 23) hour) _ e in
+      let b = or-no (outside (pos 0) (pos 59) minute) _ (a .1) in
+      let c = or-no (outside (pos 0) (pos 59) second) _ (b .1) in
+      record {
+        hour-within = within 23 hour (a .0);
+        minute-within = within 59 minute (b .0);
+        second-within = within 59 second (c .0);
+        fraction-within = within (perSecond - 1) fraction (c .1);
+      }
+
+  -- the time of day
+  unfoldable pub timeℕ : ℕ
+  timeℕ = natAbs hour * perHour + natAbs minute * perMinute + natAbs second * perSecond + natAbs fraction
+
+  module _ (t : Time hour minute second fraction) where
+    pub time-is : timeOfFields hour minute second fraction ≡ pos timeℕ
+    unfolding timeOfFields timeℕ
+    time-is = λ i. timeOfFields (t .hour-within .is i) (t .minute-within .is i) (t .second-within .is i) (t .fraction-within .is i)
+
+    pub time-small : timeℕ < perDay
+    unfolding timeℕ
+    time-small = omega (arith, t .hour-within .small, t .minute-within .small, t .second-within .small, t .fraction-within .small)
+
+    -- it has these fields
+    pub fields-back : (d : Date) → fieldsAt d timeℕ ≡ fields (d .year) (d .month) (d .day) hour minute second fraction
+    unfolding fieldsAt timeℕ
+    fields-back d =
+        let h = t .hour-within .small in
+        let m = t .minute-within .small in
+        let s = t .second-within .small in
+        let l = t .fraction-within .small in
+        let p : pos (timeℕ / perHour) ≡ hour = ap pos (omega arith) ∙ sym (t .hour-within .is) in
+        let q : pos (timeℕ % perHour / perMinute) ≡ minute = ap pos (omega arith) ∙ sym (t .minute-within .is) in
+        let r : pos (timeℕ % perMinute / perSecond) ≡ second = ap pos (omega arith) ∙ sym (t .second-within .is) in
+        let u : pos (timeℕ % perSecond) ≡ fraction = ap pos (omega arith) ∙ sym (t .fraction-within .is) in
+        λ i. fields (d .year) (d .month) (d .day) (p i) (q i) (r i) (u i)
+
+-- the fields of a time of day are within their limits, and make that time
+pub fields-of-time :
+    (t : ℕ) → t < perDay →
+    (badTime (pos (t / perHour)) (pos (t % perHour / perMinute)) (pos (t % perMinute / perSecond)) (pos (t % perSecond)) ≡ false)
+    × (timeOfFields (pos (t / perHour)) (pos (t % perHour / perMinute)) (pos (t % perMinute / perSecond)) (pos (t % perSecond)) ≡ pos t)
+unfolding timeOfFields
+fields-of-time t h = (
+  ap₂ _||_ (inside-pos _ _ (t / perHour) (omega arith) (omega arith))
+      (ap₂ _||_ (inside-pos _ _ (t % perHour / perMinute) (omega arith) (omega arith))
+      (ap₂ _||_ (inside-pos _ _ (t % perMinute / perSecond) (omega arith) (omega arith)) (inside-pos _ _ (t % perSecond) (omega arith) (omega arith)))),
+  ap pos (omega arith),
+)
