@@ -17,12 +17,16 @@ use Rattle.numbers.proofs.Machine.{read, pos-fits, cast-pos}
 use Rattle.numbers.proofs.Between.{Within, within, inside-pos}
 use Rattle.calendar.specs.Range.{firstYear, lastYear}
 use Rattle.calendar.specs.Gregorian.{monthLength, date}
-use Rattle.calendar.specs.Answers.{ofDate}
-use Rattle.calendar.proofs.Dates.{natural, day-small}
+use Rattle.calendar.specs.Answers.{daysAnswer}
+use Rattle.calendar.specs.declared.Date.{Date}
+use Rattle.calendar.specs.Count.{countOfDate}
+use Rattle.calendar.proofs.Tests.{accepted-valid}
+use Rattle.calendar.proofs.Dates as C
 use Rattle.instant.specs.Instant.{timeOfFields, instantAt}
 use Rattle.instant.specs.Answers.{badTime, fieldsAnswer, joinAnswer}
 use Rattle.instant.specs.declared.Fields.{Fields}
-use Rattle.instant.proofs.Joined as J
+use Rattle.instant.proofs.Times as T
+use Rattle.instant.proofs.Joined.{join-accepted}
 use Rattle.instant.proofs.Laws.{split-join}
 use Rattle.labels.specs.Digits.{digits}
 use Rattle.labels.specs.Rfc3339.{dateText, timeText, labelText}
@@ -34,32 +38,24 @@ pub as-signed : {n : ℕ} → Fits w32 n → toZ w64 n ≡ pos n
 as-signed h = toZ-pos w64 (omega (arith, h .fits))
 
 -- fields that make an instant
-four-tests : (a b c t : Bool) (v : ℤ) (ms : ℤ) → cond a (refused 1) (cond b (refused 2) (cond c (refused 3) (cond t (refused 5) (value v)))) ≡ value ms → (a ≡ false) × ((b ≡ false) × ((c ≡ false) × (t ≡ false)))
-four-tests true b c t v ms e = absurd (let z : _≡_ {A = ℕ} 0 1 = cc in omega arith)
-four-tests false true c t v ms e = absurd (let z : _≡_ {A = ℕ} 0 1 = cc in omega arith)
-four-tests false false true t v ms e = absurd (let z : _≡_ {A = ℕ} 0 1 = cc in omega arith)
-four-tests false false false true v ms e = absurd (let z : _≡_ {A = ℕ} 0 1 = cc in omega arith)
-four-tests false false false false v ms e = (refl, (refl, (refl, refl)))
-
 wider : {k : ℕ} (l : ℕ) {z : ℤ} → Within k z → k ≤ l → outside (pos 0) (pos l) z ≡ false
 wider l {z} w h = let s = w .small in ap (outside (pos 0) (pos l)) (w .is) ∙ inside-pos 0 l (natAbs z) (omega arith) (omega arith)
 
 pub joined-narrow : (year month day hour minute second millisecond ms : ℤ) → joinAnswer year month day hour minute second millisecond ≡ value ms → NarrowFields (record { year = year; month = month; day = day; hour = hour; minute = minute; second = second; millisecond = millisecond })
-unfolding joinAnswer ofDate
+unfolding daysAnswer
 joined-narrow year month day hour minute second millisecond ms e =
-    let t = four-tests (outside firstYear lastYear year) (outside (pos 1) (pos 12) month) (outside (pos 1) (monthLength year month) day) (badTime hour minute second millisecond) _ ms e in
-    let d = natural year month day (t .0) (t .1 .0) (t .1 .1 .0) in
-    let v = d .valid in
-    let s = day-small (d .y) (d .m) (v .month-low) (v .month-high) in
-    let c = J.natural hour minute second millisecond (t .1 .1 .1) in
+    let a = join-accepted year month day hour minute second millisecond ms (sym e) in
+    let v = accepted-valid year month day countOfDate (a .count) (a .days) in
+    let n = C.natural (date year month day) v in
+    let c = T.natural hour minute second millisecond (a .not-bad) in
     record {
-      year-within = t .0;
-      month-within = ap (outside (pos 0) (pos 99)) (d .month-is) ∙ inside-pos 0 99 (d .m) (omega arith) (omega (arith, v .month-high));
-      day-within = ap (outside (pos 0) (pos 99)) (d .day-is) ∙ inside-pos 0 99 (d .d) (omega arith) (omega (arith, v .day-high));
+      year-within = v .year-inside;
+      month-within = ap (λ (d : Date). outside (pos 0) (pos 99) (d .month)) (n .is) ∙ inside-pos 0 99 (n .m) (omega arith) (omega (arith, n .valid .month-high));
+      day-within = ap (λ (d : Date). outside (pos 0) (pos 99) (d .day)) (n .is) ∙ inside-pos 0 99 (n .d) (omega arith) (omega (arith, C.day-small (n .y) (n .m) (n .d) (n .valid)));
       hour-within = wider 99 (c .hour-within) (omega arith);
       minute-within = wider 99 (c .minute-within) (omega arith);
       second-within = wider 99 (c .second-within) (omega arith);
-      millisecond-within = wider 999 (c .last-within) (omega arith);
+      millisecond-within = wider 999 (c .fraction-within) (omega arith);
     }
 
 pub fields-narrow : (ms : ℤ) (f : Fields) → fieldsAnswer ms ≡ value f → NarrowFields f
