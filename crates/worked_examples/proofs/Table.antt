@@ -13,6 +13,8 @@ use Rattle.calendar.specs.Count.{dateOfCount, weekday}
 use Rattle.calendar.specs.Answers.{civilAnswer, weekdayAnswer}
 use Rattle.calendar.specs.Closed.{cycle, leapDay, leapℕ, leaps, start, monthDays, before, Valid, count, public}
 use Rattle.calendar.proofs.Laws.{date-at}
+use Rattle.instant.specs.Instant.{dayOf}
+use Rattle.instant.specs.Answers.{dayAnswer}
 use Rattle.constants.specs.Difference.{exactQuotient, deviceQuotient, differs}
 use Rattle.constants.specs.Least.{at, leastBelow}
 use Rattle.constants.specs.Limits.{outsideLimits}
@@ -36,6 +38,8 @@ pub record Table : Type 0 where
   pub february-2100 : civilAnswer (pos 47540) ≡ value (date (pos 2100) (pos 2) (pos 28))
   pub march-2100 : civilAnswer (pos 47541) ≡ value (date (pos 2100) (pos 3) (pos 1))
   pub last : (civilAnswer (pos 2932896) ≡ value (date (pos 9999) (pos 12) (pos 31))) × (weekdayAnswer (pos 2932896) ≡ value (pos 5))
+  pub day-before-epoch : dayAnswer (negsuc 86399999) ≡ value (negsuc 0)
+  pub two-days-before-epoch : dayAnswer (negsuc 86400000) ≡ value (negsuc 1)
   -- a=1 b=0 d=10 m=26 c=0 k=8, t=0 and t=1; m=25; and a month step of source document 000
   pub tenth : searchAnswer (pos 1) (pos 0) (pos 10) (pos 26) (pos 0) (pos 8) (pos 0) (pos 4294967295) ≡ value (at 69)
   pub tenth-within-one : searchAnswer (pos 1) (pos 0) (pos 10) (pos 26) (pos 0) (pos 8) (pos 1) (pos 4294967295) ≡ value (at 709)
@@ -43,7 +47,7 @@ pub record Table : Type 0 where
   pub month : searchAnswer (pos 5) (pos 461) (pos 153) (pos 2141) (pos 197913) (pos 16) (pos 0) (pos 4294967295) ≡ value (at 734)
 
 pub table : Table
-unfolding outsideLimits difference differs exactQuotient deviceQuotient leastBelow weekdayAnswer weekday count start leaps leapDay leapℕ before monthDays
+unfolding dayAnswer dayOf outsideLimits difference differs exactQuotient deviceQuotient leastBelow weekdayAnswer weekday count start leaps leapDay leapℕ before monthDays
 table =
     record {
       first = (on (negsuc 719527) 400 1 1 (omega arith) refl refl, refl);
@@ -56,6 +60,8 @@ table =
       february-2100 = on (pos 47540) 2500 2 28 (omega arith) refl refl;
       march-2100 = on (pos 47541) 2500 3 1 (omega arith) refl refl;
       last = (on (pos 2932896) 10399 12 31 (omega arith) refl refl, refl);
+      day-before-epoch = refl;
+      two-days-before-epoch = refl;
       tenth = found-early (pos 1) (pos 0) (pos 10) (pos 26) (pos 0) (pos 8) (pos 0) (pos 4294967295) refl 70 69 refl (lit≤ tt);
       tenth-within-one = found-early (pos 1) (pos 0) (pos 10) (pos 26) (pos 0) (pos 8) (pos 1) (pos 4294967295) refl 710 709 refl (lit≤ tt);
       tenth-too-small = found-early (pos 1) (pos 0) (pos 10) (pos 25) (pos 0) (pos 8) (pos 0) (pos 4294967295) refl 11 10 refl (lit≤ tt);

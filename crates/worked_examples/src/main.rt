@@ -3,9 +3,13 @@
 
 mod calendar_rows;
 mod constants_rows;
+mod instant_rows;
+mod label_rows;
 mod show;
 
 fn main() {
     calendar_rows::run();
+    instant_rows::run();
+    label_rows::run();
     constants_rows::run();
 }

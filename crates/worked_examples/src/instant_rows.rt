@@ -1,0 +1,141 @@
+// Document 01's rows of instants and of the index, both ends of the range and the instants just outside it.
+
+use super::show::natural;
+use super::show::number;
+use super::show::refused;
+use super::show::text;
+use instant::Fields;
+use instant::FieldsAnswer;
+use instant::IndexAnswer;
+use instant::NumberAnswer;
+
+pub fn run() {
+    moment(-86400000);
+    moment(-86400001);
+    moment(-1);
+    moment(0);
+    moment(1683729000000);
+    moment(-62167219200000);
+    moment(-62167219200001);
+    moment(253402300799999);
+    moment(253402300800000);
+    joined(2023, 5, 10, 14, 30, 0, 0);
+    joined(1969, 12, 31, 23, 59, 59, 999);
+    joined(2016, 12, 31, 23, 59, 60, 0);
+    joined(2016, 12, 32, 23, 59, 60, 0);
+    joined(2016, 12, 31, 24, 0, 0, 0);
+    index();
+    bad_index();
+    empty_index();
+    uneven_index();
+}
+
+// An instant: its day and its fields.
+fn moment(ms: i64) {
+    text(b"instant ");
+    number(ms);
+    text(b": day ");
+    number_answer(instant::day_of_instant(ms));
+    text(b", fields ");
+    match instant::split_instant(ms) {
+        FieldsAnswer::Value(fields) => show_fields(fields),
+        FieldsAnswer::Refused(r) => refused(r),
+    }
+    text(b"\n");
+}
+
+fn show_fields(fields: Fields) {
+    numbers(fields.year, fields.month, fields.day);
+    text(b" ");
+    numbers(fields.hour, fields.minute, fields.second);
+    text(b" ");
+    number(fields.millisecond);
+}
+
+fn numbers(a: i64, b: i64, c: i64) {
+    number(a);
+    text(b" ");
+    number(b);
+    text(b" ");
+    number(c);
+}
+
+fn number_answer(answer: NumberAnswer) {
+    match answer {
+        NumberAnswer::Value(n) => number(n),
+        NumberAnswer::Refused(r) => refused(r),
+    }
+}
+
+fn joined(year: i64, month: i64, day: i64, hour: i64, minute: i64, second: i64, millisecond: i64) {
+    text(b"fields ");
+    numbers(year, month, day);
+    text(b" ");
+    numbers(hour, minute, second);
+    text(b" ");
+    number(millisecond);
+    text(b": instant ");
+    number_answer(instant::join_instant(year, month, day, hour, minute, second, millisecond));
+    text(b"\n");
+}
+
+fn index() {
+    text(b"index -1 0 86399999 86400000: ");
+    let instants = [-1i64, 0, 86399999, 86400000];
+    let mut days = [7i32; 4];
+    index_answer(instant::index_days(&instants, &mut days));
+    text(b", days");
+    day(days[0]);
+    day(days[1]);
+    day(days[2]);
+    day(days[3]);
+    text(b"\n");
+}
+
+// The second instant lies outside the range: no day is written.
+fn bad_index() {
+    text(b"index 0 253402300800000: ");
+    let instants = [0i64, 253402300800000];
+    let mut days = [7i32; 2];
+    index_answer(instant::index_days(&instants, &mut days));
+    text(b", days");
+    day(days[0]);
+    day(days[1]);
+    text(b"\n");
+}
+
+fn day(n: i32) {
+    text(b" ");
+    number(n as i64);
+}
+
+fn empty_index() {
+    text(b"index of no instants: ");
+    let instants = [0i64; 1];
+    let mut days = [0i32; 1];
+    index_answer(instant::index_days(&instants[..0], &mut days[..0]));
+    text(b"\n");
+}
+
+fn uneven_index() {
+    text(b"index of one instant with two days: ");
+    let instants = [0i64; 1];
+    let mut days = [0i32; 2];
+    index_answer(instant::index_days(&instants, &mut days));
+    text(b"\n");
+}
+
+fn index_answer(answer: IndexAnswer) {
+    match answer {
+        IndexAnswer::Written(n) => {
+            text(b"written ");
+            natural(n as u64);
+        }
+        IndexAnswer::Refused(r) => refused(r),
+        IndexAnswer::RefusedAt(r, place) => {
+            refused(r);
+            text(b" at ");
+            natural(place as u64);
+        }
+    }
+}

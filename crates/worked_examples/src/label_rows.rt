@@ -1,0 +1,84 @@
+// Document 01's rows of the two labels.
+
+use super::show::natural;
+use super::show::number;
+use super::show::refused;
+use super::show::text;
+use labels::WriteAnswer;
+use labels::rfc3339::ReadAnswer;
+
+pub fn run() {
+    written(1683729000000);
+    written(-1);
+    written(-62167219200000);
+    written(253402300799999);
+    written(253402300800000);
+    read(b"2023-05-10T14:30:00.000Z");
+    read(b"1969-12-31T23:59:59.999Z");
+    read(b"2016-12-31T23:59:60.000Z");
+    read(b"2023-13-99T99:99:99.999Z");
+    read(b"1900-02-29T24:00:00.000Z");
+    read(b"2023-05-10t14:30:00.000z");
+    read(b"2023-05-10T14:30:00.00Z");
+    position(0);
+    position(359999999999);
+    position(4287767296);
+    position(-1);
+    position(360000000000);
+    short_position(4287767296);
+}
+
+fn written(ms: i64) {
+    text(b"instant ");
+    number(ms);
+    text(b": label ");
+    let mut out = [b'?'; 24];
+    let answer = labels::rfc3339::write_instant(ms, &mut out);
+    written_answer(answer);
+    text(b" ");
+    text(&out);
+    text(b"\n");
+}
+
+fn written_answer(answer: WriteAnswer) {
+    match answer {
+        WriteAnswer::Written(n) => natural(n as u64),
+        WriteAnswer::Refused(r) => refused(r),
+    }
+}
+
+fn read(label: &[u8]) {
+    text(b"label ");
+    text(label);
+    text(b": instant ");
+    match labels::rfc3339::read_instant(label) {
+        ReadAnswer::Value(ms) => number(ms),
+        ReadAnswer::Refused(r) => refused(r),
+    }
+    text(b"\n");
+}
+
+// The bytes that a writer leaves alone stay question marks.
+fn position(ms: i64) {
+    text(b"position ");
+    number(ms);
+    text(b": ");
+    let mut out = [b'?'; 16];
+    let answer = labels::webvtt::write_position(ms, &mut out);
+    written_answer(answer);
+    text(b" ");
+    text(&out);
+    text(b"\n");
+}
+
+fn short_position(ms: i64) {
+    text(b"position ");
+    number(ms);
+    text(b" in 13 bytes: ");
+    let mut out = [b'?'; 13];
+    let answer = labels::webvtt::write_position(ms, &mut out);
+    written_answer(answer);
+    text(b" ");
+    text(&out);
+    text(b"\n");
+}
