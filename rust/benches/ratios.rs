@@ -1,9 +1,11 @@
 //! The library against its rivals: one line for each pair, ours / rival.
 //!
 //! Both of a pair have the same signature, get the same inputs in the same run and answer alike, which is checked first.
-//! They take turns for many rounds, each called through a pointer, so that neither is inlined. A line has the ratio of the
-//! two median times, the least and the largest ratio of a round, and the best time of each. The rivals are plain Rust
-//! (benches/rivals) and, where OVENQUILL_CHRONO is set, libstdc++'s chrono (benches/chrono.cpp).
+//! In each of many rounds they take turns on every part of the inputs, called through a pointer, so that neither is
+//! inlined. The time of a part is its median over the rounds, and the time of all the inputs is the sum over the parts: a
+//! part is short, so that what else the machine does meanwhile falls on few of them. A line has the ratio of these times,
+//! those of the single rounds (the median ratio of a part), and the best time of each for one call. The rivals are plain Rust (benches/rivals)
+//! and, where OVENQUILL_CHRONO is set, libstdc++'s chrono (benches/chrono.cpp).
 
 #[path = "../tests/support/random.rs"]
 #[allow(dead_code)]
@@ -14,10 +16,12 @@ use ovenquill::harness::raw;
 use ovenquill::harness::{self, Constants};
 use random::Random;
 use std::hint::black_box;
-use std::time::{Duration, Instant};
+use std::time::Instant;
 
 const ROUNDS: usize = 31;
 const INPUTS: usize = 131072;
+/// The parts that the inputs of a line are done in.
+const PARTS: usize = 16;
 const LAST_END: i64 = 4294967295;
 
 type OneNumber = unsafe extern "C" fn(i64, *mut i64, usize);
@@ -27,17 +31,17 @@ type Reader = unsafe extern "C" fn(*const u8, usize, *mut i64, usize);
 type Index = unsafe extern "C" fn(*const i64, usize, *mut i32, usize, *mut i64, usize);
 type Checker = unsafe extern "C" fn(i64, i64, i64, i64, i64, i64, i64, i64, *mut i64, usize);
 
-/// One way to do the work of a line: calls on all inputs; answers a sum over what was answered.
-type Work<'a> = Box<dyn FnMut() -> i64 + 'a>;
+/// One way to do the work of a line: calls on the inputs of a part, and answers a sum over what was answered.
+type Work<'a> = Box<dyn FnMut(usize) -> i64 + 'a>;
 
 fn main() {
     println!("{ROUNDS} rounds, ours and the rival in turn; ratio = median time of ours / median time of the rival");
     println!();
-    println!("| call | rival | ratio | ratio in a round | best of ours | best of the rival |");
-    println!("|---|---|---|---|---|---|");
+    println!("| call | rival | ratio | rounds, least to largest | rounds, middle half | best of ours | of the rival |");
+    println!("|---|---|---|---|---|---|---|");
     calendar_lines();
     label_lines();
-    index_line();
+    index_lines();
     constants_lines();
     println!();
     constants_times();
@@ -45,24 +49,19 @@ fn main() {
 
 // Measuring
 
-fn time(work: &mut Work) -> (Duration, i64) {
-    let start = Instant::now();
-    let sum = work();
-    (start.elapsed(), sum)
-}
+/// The seconds that each part took in each round.
+type Times = Vec<[f64; ROUNDS]>;
 
-fn median(times: &[f64]) -> f64 {
+/// The number that so many of a hundred are below.
+fn percentile(times: &[f64], percent: usize) -> f64 {
     let mut sorted = times.to_vec();
     sorted.sort_by(f64::total_cmp);
-    sorted[sorted.len() / 2]
+    sorted[(sorted.len() - 1) * percent / 100]
 }
 
-fn least(times: &[f64]) -> f64 {
-    times.iter().copied().fold(f64::INFINITY, f64::min)
-}
-
-fn largest(times: &[f64]) -> f64 {
-    times.iter().copied().fold(0.0, f64::max)
+/// The sum over the parts of such a percentile over the rounds.
+fn total(times: &Times, percent: usize) -> f64 {
+    times.iter().map(|rounds| percentile(rounds, percent)).sum()
 }
 
 /// A time for one call, in the unit that suits it.
@@ -75,26 +74,50 @@ fn shown(seconds: f64) -> String {
     }
 }
 
-/// Measures both and prints the line. A round of either does the work on that many inputs.
-fn line<'a>(call: &str, rival_name: &str, inputs: usize, mut ours: Work<'a>, mut rival: Work<'a>) {
-    assert_eq!(time(&mut ours).1, time(&mut rival).1, "{call}: ours and {rival_name} answer differently");
-    let (mut our_times, mut rival_times) = (Vec::new(), Vec::new());
+/// Measures both and prints the line.
+fn line<'a>(call: &str, rival_name: &str, inputs: usize, parts: usize, mut ours: Work<'a>, mut rival: Work<'a>) {
+    for part in 0..parts {
+        assert_eq!(ours(part), rival(part), "{call}: ours and {rival_name} answer differently");
+    }
+    let mut our_times: Times = vec![[0.0; ROUNDS]; parts];
+    let mut rival_times = our_times.clone();
     for round in 0..ROUNDS {
-        for turn in 0..2 {
-            let (work, times) =
-                if round % 2 == turn { (&mut ours, &mut our_times) } else { (&mut rival, &mut rival_times) };
-            times.push(time(work).0.as_secs_f64() / inputs as f64);
+        for part in 0..parts {
+            for turn in 0..2 {
+                let (work, times) = if (round + part) % 2 == turn {
+                    (&mut ours, &mut our_times)
+                } else {
+                    (&mut rival, &mut rival_times)
+                };
+                let start = Instant::now();
+                black_box(work(part));
+                times[part][round] = start.elapsed().as_secs_f64();
+            }
         }
     }
-    let ratios: Vec<f64> = our_times.iter().zip(&rival_times).map(|(ours, rival)| ours / rival).collect();
+    // The ratio of a round is the median one of its parts.
+    let in_round = |round: usize| {
+        let parts: Vec<f64> =
+            our_times.iter().zip(&rival_times).map(|(ours, rival)| ours[round] / rival[round]).collect();
+        percentile(&parts, 50)
+    };
+    let ratios: Vec<f64> = (0..ROUNDS).map(in_round).collect();
     println!(
-        "| {call} | {rival_name} | {:.3} | {:.3} to {:.3} | {} | {} |",
-        median(&our_times) / median(&rival_times),
-        least(&ratios),
-        largest(&ratios),
-        shown(least(&our_times)),
-        shown(least(&rival_times)),
+        "| {call} | {rival_name} | {:.3} | {:.3} to {:.3} | {:.3} to {:.3} | {} | {} |",
+        total(&our_times, 50) / total(&rival_times, 50),
+        percentile(&ratios, 0),
+        percentile(&ratios, 100),
+        percentile(&ratios, 25),
+        percentile(&ratios, 75),
+        shown(total(&our_times, 0) / inputs as f64),
+        shown(total(&rival_times, 0) / inputs as f64),
     );
+}
+
+/// One part of the inputs.
+fn part_of<T>(inputs: &[T], part: usize) -> &[T] {
+    let length = inputs.len() / PARTS;
+    &inputs[part * length..(part + 1) * length]
 }
 
 /// A sum that differs where an answer differs.
@@ -124,9 +147,9 @@ const DATE_RIVALS: &[(&str, ThreeNumbers)] = &[
 
 fn on_counts(call: OneNumber, counts: &[i64]) -> Work<'_> {
     let call = black_box(call);
-    Box::new(move || {
+    Box::new(move |part| {
         let mut answer = [0; 4];
-        counts.iter().fold(0, |sum, &days| {
+        part_of(counts, part).iter().fold(0, |sum, &days| {
             // SAFETY: the pointer and the length are those of the answer.
             unsafe { call(days, answer.as_mut_ptr(), answer.len()) };
             mixed(sum, &answer)
@@ -136,9 +159,9 @@ fn on_counts(call: OneNumber, counts: &[i64]) -> Work<'_> {
 
 fn on_dates(call: ThreeNumbers, dates: &[[i64; 3]]) -> Work<'_> {
     let call = black_box(call);
-    Box::new(move || {
+    Box::new(move |part| {
         let mut answer = [0; 3];
-        dates.iter().fold(0, |sum, &[year, month, day]| {
+        part_of(dates, part).iter().fold(0, |sum, &[year, month, day]| {
             // SAFETY: the pointer and the length are those of the answer.
             unsafe { call(year, month, day, answer.as_mut_ptr(), answer.len()) };
             mixed(sum, &answer)
@@ -173,12 +196,12 @@ fn calendar_lines() {
 
     for (inputs, what) in [(&counts, "days to date"), (&mixed_counts, "days to date, 1 in 8 refused")] {
         for &(name, rival) in COUNT_RIVALS {
-            line(what, name, INPUTS, on_counts(raw::harness_civil_from_days, inputs), on_counts(rival, inputs));
+            line(what, name, INPUTS, PARTS, on_counts(raw::harness_civil_from_days, inputs), on_counts(rival, inputs));
         }
     }
     for (inputs, what) in [(&dates, "date to days"), (&mixed_dates, "date to days, 1 in 8 refused")] {
         for &(name, rival) in DATE_RIVALS {
-            line(what, name, INPUTS, on_dates(raw::harness_days_from_civil, inputs), on_dates(rival, inputs));
+            line(what, name, INPUTS, PARTS, on_dates(raw::harness_days_from_civil, inputs), on_dates(rival, inputs));
         }
     }
 }
@@ -189,9 +212,9 @@ fn calendar_lines() {
 fn on_buffers<'a>(call: Writer, instants: &'a [i64]) -> Work<'a> {
     let call = black_box(call);
     let mut buffers = vec![[b'?'; 32]; 64];
-    Box::new(move || {
+    Box::new(move |part| {
         let mut answer = [0; 3];
-        instants.iter().enumerate().fold(0, |sum, (place, &ms)| {
+        part_of(instants, part).iter().enumerate().fold(0, |sum, (place, &ms)| {
             let out = &mut buffers[place % 64];
             // SAFETY: the pointers and the lengths are those of the buffer and the answer.
             unsafe { call(ms, out.as_mut_ptr(), out.len(), answer.as_mut_ptr(), answer.len()) };
@@ -202,9 +225,9 @@ fn on_buffers<'a>(call: Writer, instants: &'a [i64]) -> Work<'a> {
 
 fn on_labels(call: Reader, labels: &[[u8; 24]]) -> Work<'_> {
     let call = black_box(call);
-    Box::new(move || {
+    Box::new(move |part| {
         let mut answer = [0; 3];
-        labels.iter().fold(0, |sum, label| {
+        part_of(labels, part).iter().fold(0, |sum, label| {
             // SAFETY: the pointers and the lengths are those of the label and the answer.
             unsafe { call(label.as_ptr(), label.len(), answer.as_mut_ptr(), answer.len()) };
             mixed(sum, &answer)
@@ -253,46 +276,48 @@ fn label_lines() {
     let rust = "hand-written Rust";
     same_bytes(raw::harness_write_instant, rivals::write_instant, &instants);
     let (ours, rival) = (raw::harness_write_instant as Writer, rivals::write_instant as Writer);
-    line("write an instant label", rust, INPUTS, on_buffers(ours, &instants), on_buffers(rival, &instants));
+    line("write an instant label", rust, INPUTS, PARTS, on_buffers(ours, &instants), on_buffers(rival, &instants));
     for (inputs, what) in [(&labels, "read an instant label"), (&mixed_labels, "read a label, 1 in 8 damaged")] {
         let (ours, rival) = (raw::harness_read_instant as Reader, rivals::read_instant as Reader);
-        line(what, rust, INPUTS, on_labels(ours, inputs), on_labels(rival, inputs));
+        line(what, rust, INPUTS, PARTS, on_labels(ours, inputs), on_labels(rival, inputs));
     }
     for (inputs, what) in
         [(&short, "write a position label, below 100 hours"), (&long, "write a position label, of any size")]
     {
         let (ours, rival) = (raw::harness_write_position as Writer, rivals::write_position as Writer);
         same_bytes(ours, rival, inputs);
-        line(what, rust, INPUTS, on_buffers(ours, inputs), on_buffers(rival, inputs));
+        line(what, rust, INPUTS, PARTS, on_buffers(ours, inputs), on_buffers(rival, inputs));
     }
 }
 
 // The recording index
 
-fn on_list<'a>(call: Index, instants: &'a [i64]) -> Work<'a> {
+/// Indexes lists of that length, one after the other, each to the same days.
+fn on_lists<'a>(call: Index, instants: &'a [i64], parts: usize, length: usize) -> Work<'a> {
     let call = black_box(call);
-    let mut days = vec![0; instants.len()];
-    Box::new(move || {
+    let mut days = vec![0; length];
+    Box::new(move |part| {
+        let size = instants.len() / parts;
         let mut answer = [0; 3];
-        // SAFETY: the pointers and the lengths are those of the lists and the answer.
-        unsafe {
-            call(instants.as_ptr(), instants.len(), days.as_mut_ptr(), days.len(), answer.as_mut_ptr(), answer.len())
-        };
-        mixed(i64::from(days[days.len() / 2]), &answer)
+        instants[part * size..(part + 1) * size].chunks(length).fold(0, |sum, list| {
+            // SAFETY: the pointers and the lengths are those of the lists and the answer.
+            unsafe {
+                call(list.as_ptr(), list.len(), days.as_mut_ptr(), days.len(), answer.as_mut_ptr(), answer.len())
+            };
+            mixed(sum ^ i64::from(days[length / 2]), &answer)
+        })
     })
 }
 
-fn index_line() {
+fn index_lines() {
     let mut random = Random::new(103);
     let instants: Vec<i64> = (0..1_000_000).map(|_| random.within(-62167219200000, 253402300799999)).collect();
-    let mut our_days = vec![0; instants.len()];
-    harness::index_days(&instants, &mut our_days);
-    assert!(instants.iter().zip(&our_days).all(|(ms, &day)| ms.div_euclid(86400000) == i64::from(day)));
-    for length in [1_000_000, 1000] {
-        let list = &instants[..length];
-        let ours = on_list(raw::harness_index_days, list);
-        let rival = on_list(rivals::index_days, list);
-        line(&format!("index {length} instants, each"), "`div_euclid` loop", length, ours, rival);
+    for (inputs, parts, length) in [(1_000_000, 1, 1_000_000), (INPUTS, PARTS, 1024)] {
+        let list = &instants[..inputs];
+        let ours = on_lists(raw::harness_index_days, list, parts, length);
+        let rival = on_lists(rivals::index_days, list, parts, length);
+        let what = format!("index of {length}, for each instant");
+        line(&what, "`div_euclid` loop", inputs, parts, ours, rival);
     }
 }
 
@@ -303,9 +328,9 @@ type Set = (Constants, i64);
 
 fn on_sets<'a>(call: Checker, sets: &'a [Set]) -> Work<'a> {
     let call = black_box(call);
-    Box::new(move || {
+    Box::new(move |part| {
         let mut answer = [0; 3];
-        sets.iter().fold(0, |sum, &(q, end)| {
+        part_of(sets, part).iter().fold(0, |sum, &(q, end)| {
             // SAFETY: the pointer and the length are those of the answer.
             unsafe { call(q.a, q.b, q.d, q.m, q.c, q.k, q.t, end, answer.as_mut_ptr(), answer.len()) };
             mixed(sum, &answer)
@@ -360,6 +385,7 @@ fn corners() -> Vec<Constants> {
         .collect()
 }
 
+/// The walk takes up to milliseconds, so the lines with large divisors have fewer sets.
 fn constants_lines() {
     let mut random = Random::new(104);
     for (d_last, count) in [(16, INPUTS), (256, INPUTS), (4096, 4096), (1048575, 64)] {
@@ -372,20 +398,15 @@ fn constants_lines() {
         let walk = "walk of the residues in Rust";
         let (ours, rival) = (raw::harness_first_difference as Checker, rivals::first_difference as Checker);
         let what = format!("search, d up to {d_last}");
-        line(&what, walk, count, on_sets(ours, &searches), on_sets(rival, &searches));
+        line(&what, walk, count, PARTS, on_sets(ours, &searches), on_sets(rival, &searches));
         let (ours, rival) = (raw::harness_check_bound as Checker, rivals::check_bound as Checker);
         let what = format!("claim, d up to {d_last}");
-        line(&what, walk, count, on_sets(ours, &claims), on_sets(rival, &claims));
+        line(&what, walk, count, PARTS, on_sets(ours, &claims), on_sets(rival, &claims));
     }
-    let any: Vec<Set> = (0..INPUTS).map(|_| (any_allowed(&mut random), LAST_END)).collect();
+    let any: Vec<Set> = (0..512).map(|_| (any_allowed(&mut random), LAST_END)).collect();
     let (ours, rival) = (raw::harness_first_difference as Checker, rivals::first_difference as Checker);
-    line(
-        "search, any allowed constants",
-        "walk of the residues in Rust",
-        INPUTS,
-        on_sets(ours, &any),
-        on_sets(rival, &any),
-    );
+    let walk = "walk of the residues in Rust";
+    line("search, any allowed constants", walk, any.len(), PARTS, on_sets(ours, &any), on_sets(rival, &any));
 }
 
 /// Prints the mean and the worst time of each call over many sets. The time of a set is the best of five, so that the worst
@@ -426,9 +447,9 @@ fn constants_times() {
             "| {kind} | {} | {} | {} | {} | {} |",
             sets.len(),
             mean(&search),
-            shown(largest(&search)),
+            shown(percentile(&search, 100)),
             mean(&claim),
-            shown(largest(&claim))
+            shown(percentile(&claim, 100))
         );
     }
 }

@@ -220,33 +220,29 @@ pub unsafe extern "C" fn write_position(ms: i64, out: *mut u8, out_length: usize
     answer_with(answer, length, [0, digits as i64 + 10, 0]);
 }
 
+/// The shape of a label: 0 where a digit stands, else the mark.
+const SHAPE: [u8; 24] = *b"\0\0\0\0-\0\0-\0\0T\0\0:\0\0:\0\0.\0\0\0Z";
+
 /// The instant of a label, or a refusal.
 #[inline(always)]
 fn read(label: &[u8]) -> Result<i64, i64> {
     let Ok(label) = <&[u8; 24]>::try_from(label) else { return Err(8) };
-    let marks = (label[4] ^ b'-')
-        | (label[7] ^ b'-')
-        | (label[10] ^ b'T')
-        | (label[13] ^ b':')
-        | (label[16] ^ b':')
-        | (label[19] ^ b'.')
-        | (label[23] ^ b'Z');
-    let mut wrong = marks != 0;
-    let mut digit = |place: usize| {
-        let value = label[place].wrapping_sub(b'0');
-        wrong |= value > 9;
-        u32::from(value)
-    };
-    let year = digit(0) * 1000 + digit(1) * 100 + digit(2) * 10 + digit(3);
-    let month = digit(5) * 10 + digit(6);
-    let day = digit(8) * 10 + digit(9);
-    let hour = digit(11) * 10 + digit(12);
-    let minute = digit(14) * 10 + digit(15);
-    let second = digit(17) * 10 + digit(18);
-    let millisecond = digit(20) * 100 + digit(21) * 10 + digit(22);
-    if wrong {
+    // Every byte is tested without a branch, in a form that the compiler turns into vector code.
+    let mut wrong = 0;
+    for place in 0..24 {
+        let digit = u8::from(label[place].wrapping_sub(b'0') > 9);
+        let mark = label[place] ^ SHAPE[place];
+        wrong |= if SHAPE[place] == 0 { digit } else { mark };
+    }
+    if wrong != 0 {
         return Err(8);
     }
+    let digit = |place: usize| u32::from(label[place] - b'0');
+    let pair = |place: usize| digit(place) * 10 + digit(place + 1);
+    let year = pair(0) * 100 + pair(2);
+    let (month, day) = (pair(5), pair(8));
+    let (hour, minute, second) = (pair(11), pair(14), pair(17));
+    let millisecond = digit(20) * 100 + pair(21);
     if !(1..=12).contains(&month) {
         return Err(2);
     }
