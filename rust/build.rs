@@ -1,4 +1,5 @@
-// Links the archives that `make` writes. OVENQUILL_LIB names another folder that holds them.
+// Links the archives that `make` writes. OVENQUILL_LIB names another folder that holds them. OVENQUILL_CHRONO names the
+// folder of libovenquill_chrono.a, which benches/chrono.cpp says how to make: the benchmarks then have its lines too.
 use std::env;
 use std::path::PathBuf;
 
@@ -13,5 +14,14 @@ fn main() {
     if env::var_os("CARGO_FEATURE_HARNESS").is_some() {
         println!("cargo:rustc-link-lib=static=ovenquill_harness");
         println!("cargo:rerun-if-changed={}", folder.join("libovenquill_harness.a").display());
+    }
+
+    println!("cargo:rustc-check-cfg=cfg(chrono)");
+    println!("cargo:rerun-if-env-changed=OVENQUILL_CHRONO");
+    if let Some(folder) = env::var_os("OVENQUILL_CHRONO").map(PathBuf::from) {
+        let archive = folder.join("libovenquill_chrono.a");
+        println!("cargo:rustc-cfg=chrono");
+        println!("cargo:rustc-link-arg-benches={}", archive.display());
+        println!("cargo:rerun-if-changed={}", archive.display());
     }
 }

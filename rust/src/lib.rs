@@ -13,6 +13,10 @@
 use std::error::Error;
 use std::fmt;
 
+#[cfg(feature = "harness")]
+#[doc(hidden)]
+pub mod harness;
+
 extern "C" {
     fn ovenquill_weekday(days: i64) -> i64;
     fn ovenquill_write_instant(ms: i64, out: *mut u8, length: usize) -> i64;

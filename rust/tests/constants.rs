@@ -1,0 +1,330 @@
+//! The crate `constants`: the search and the claim against a plain scan of every n, and, where the end is too far to scan,
+//! against a walk of all residues that is held to the scan first (tests/support/plain.rs); and against document 01's rows.
+#![cfg(feature = "harness")]
+
+mod support;
+
+use ovenquill::harness::Answer::{Refused, RefusedAt, Value};
+use ovenquill::harness::{self, raw, Constants};
+use support::plain::{self, LAST_BOUND, LAST_END};
+use support::random::Random;
+
+fn constants(a: i64, b: i64, d: i64, m: i64, c: i64, k: i64, t: i64) -> Constants {
+    Constants { a, b, d, m, c, k, t }
+}
+
+/// Holds searches and claims around the least difference to it. `least` is the least difference below `end`, if any.
+fn try_around(q: Constants, end: i64, least: Option<i64>) {
+    let search = |end: i64| {
+        let expected = Value(least.filter(|&n| n < end));
+        assert_eq!(harness::first_difference(q, end), expected, "{q:?} below {end}");
+    };
+    let claim = |bound: i64| {
+        let expected = plain::claim(least, bound);
+        assert_eq!(harness::check_bound(q, bound), expected, "{q:?} at {bound}");
+    };
+    search(end);
+    search(end / 2);
+    if end > 0 {
+        search(end - 1);
+        claim(end - 1);
+        claim(end / 2);
+    }
+    if let Some(n) = least {
+        search(n);
+        search(n + 1);
+        claim(n);
+        if n > 0 {
+            claim(n - 1);
+            claim(n / 2);
+        }
+        if n < LAST_BOUND {
+            claim(n + 1);
+        }
+    }
+}
+
+/// Constants whose multiplier is the exact ratio's nearest, or one off, for a random ratio and offset.
+fn near_exact(random: &mut Random, d_last: i64) -> Constants {
+    let d = random.within(1, d_last);
+    let a = if random.within(0, 1) == 0 { 1 } else { random.of_any_size(1, 1023) };
+    let mut k = random.within(0, 47);
+    // The largest shift that leaves the multiplier within its limit.
+    while (a << k) / d > 4294967294 {
+        k -= 1;
+    }
+    let m = ((a << k) / d + random.within(0, 1)).min(4294967295);
+    let any = random.within(0, 1023);
+    let b = random.choose(&[0, 0, 1, d.min(1023) - 1, any]);
+    let c = match random.within(0, 3) {
+        0 => 0,
+        1 => random.of_any_size(0, 4294967295),
+        _ => ((b << k) / d + random.within(-1, 1) * m).clamp(0, 4294967295),
+    };
+    constants(a, b, d, m, c, k, random.choose(&[0, 0, 0, 1, 2, 255]))
+}
+
+/// Any allowed constants, small numbers as often as large ones.
+fn any_allowed(random: &mut Random, d_last: i64) -> Constants {
+    constants(
+        random.of_any_size(1, 1023),
+        random.of_any_size(0, 1023),
+        random.of_any_size(1, d_last),
+        random.of_any_size(0, 4294967295),
+        random.of_any_size(0, 4294967295),
+        random.within(0, 47),
+        random.of_any_size(0, 255),
+    )
+}
+
+#[test]
+fn rows_of_document_01() {
+    let rows = [
+        (constants(1, 0, 10, 26, 0, 8, 0), Some(69)),
+        (constants(1, 0, 10, 26, 0, 8, 1), Some(709)),
+        (constants(1, 0, 10, 25, 0, 8, 0), Some(10)),
+        (constants(5, 461, 153, 2141, 197913, 16, 0), Some(734)),
+        (constants(1, 0, 1461, 2939745, 0, 32, 0), Some(28825529)),
+        (constants(1, 0, 1461, 376287347, 0, 39, 0), None),
+        (constants(1, 0, 146097, 963315389, 0, 47, 0), None),
+        (constants(1, 0, 4, 1, 0, 2, 0), None),
+        (constants(1, 0, 1, 1, 1, 0, 0), Some(0)),
+    ];
+    for (q, least) in rows {
+        assert_eq!(harness::first_difference(q, LAST_END), Value(least), "{q:?}");
+        assert_eq!(harness::first_difference(q, 0), Value(None), "{q:?}");
+        try_around(q, LAST_END, least);
+    }
+    // After 69 was wrong, 70 to 78 are right again: a claim of 79 must still name 69.
+    assert_eq!(harness::check_bound(rows[0].0, 69), Value(()));
+    assert_eq!(harness::check_bound(rows[0].0, 79), RefusedAt(10, 69));
+    assert_eq!(harness::check_bound(rows[0].0, 68), Refused(11));
+}
+
+#[test]
+fn rows_of_document_01_scanned() {
+    let scanned = |q: Constants| assert_eq!(plain::scan(q, 1000), plain::walk(q, 1000), "{q:?}");
+    scanned(constants(1, 0, 10, 26, 0, 8, 0));
+    scanned(constants(1, 0, 10, 26, 0, 8, 1));
+    scanned(constants(1, 0, 10, 25, 0, 8, 0));
+    scanned(constants(5, 461, 153, 2141, 197913, 16, 0));
+    assert_eq!(plain::scan_by_steps(constants(1, 0, 1461, 2939745, 0, 32, 0), LAST_END), Some(28825529));
+}
+
+#[test]
+fn row_1461_scanned_to_the_last_end() {
+    let q = constants(1, 0, 1461, 376287347, 0, 39, 0);
+    assert_eq!(Value(plain::scan_by_steps(q, LAST_END)), harness::first_difference(q, LAST_END));
+}
+
+#[test]
+fn row_146097_scanned_to_the_last_end() {
+    let q = constants(1, 0, 146097, 963315389, 0, 47, 0);
+    assert_eq!(Value(plain::scan_by_steps(q, LAST_END)), harness::first_difference(q, LAST_END));
+}
+
+#[test]
+fn small_constants_scanned() {
+    // Every set of very small constants, and more ends than `try_around` has.
+    for d in 1..=9 {
+        for a in 1..=5 {
+            for k in 0..=4 {
+                for m in 0..=20 {
+                    for (b, c) in [(0, 0), (0, 1), (1, 0), (3, 7), (9, 2), (1, 30)] {
+                        for t in 0..=2 {
+                            let q = constants(a, b, d, m, c, k, t);
+                            let least = plain::scan(q, 60);
+                            assert_eq!(plain::walk(q, 60), least, "{q:?}");
+                            for end in [0, 1, 2, 7, 59, 60] {
+                                try_around(q, end, least.filter(|&n| n < end));
+                            }
+                        }
+                    }
+                }
+            }
+        }
+    }
+}
+
+/// Random constants with a divisor up to `d_last`, each scanned to a random end up to `last`.
+fn try_random_scans(seed: u64, sets: usize, d_last: i64, last: i64) {
+    let mut random = Random::new(seed);
+    let mut found = 0;
+    for set in 0..sets {
+        let q = if set % 2 == 0 { near_exact(&mut random, d_last) } else { any_allowed(&mut random, d_last) };
+        let end = random.within(0, last);
+        let least = plain::scan_by_steps(q, end);
+        if set % 16 == 0 {
+            assert_eq!(plain::scan(q, end), least, "{q:?} below {end}");
+            assert_eq!(plain::walk(q, end), least, "{q:?} below {end}");
+        }
+        found += usize::from(least.is_some());
+        try_around(q, end, least);
+    }
+    assert!(found > sets / 10 && found < sets, "{found} differences in {sets} sets");
+}
+
+#[test]
+fn a_million_random_sets_scanned() {
+    try_random_scans(17, 1_000_000, 200, 2000);
+}
+
+#[test]
+fn random_sets_with_larger_divisors_scanned() {
+    try_random_scans(18, 10_000, 20_000, 200_000);
+}
+
+#[test]
+fn random_sets_to_far_ends_walked() {
+    let mut random = Random::new(19);
+    for set in 0..600 {
+        let d_last = if set % 2 == 0 { 1048575 } else { 30000 };
+        let q = if set % 8 == 0 { any_allowed(&mut random, d_last) } else { near_exact(&mut random, d_last) };
+        let end = if set % 4 == 0 { random.of_any_size(0, LAST_END) } else { LAST_END };
+        try_around(q, end, plain::walk(q, end));
+    }
+}
+
+#[test]
+fn all_limits_corners() {
+    // Every combination of the least, the largest and, for some, a middle number.
+    for d in [1, 2, 1048574, 1048575] {
+        for a in [1, 1023] {
+            for b in [0, 1023] {
+                for m in [0, 1, 4294967295] {
+                    for c in [0, 4294967295] {
+                        for k in [0, 1, 31, 47] {
+                            for t in [0, 255] {
+                                let q = constants(a, b, d, m, c, k, t);
+                                try_around(q, LAST_END, plain::walk(q, LAST_END));
+                            }
+                        }
+                    }
+                }
+            }
+        }
+    }
+    for end in [0, 1, 2, LAST_END - 1, LAST_END] {
+        assert_eq!(harness::first_difference(constants(1, 0, 4, 1, 0, 2, 0), end), Value(None));
+    }
+}
+
+#[test]
+fn differences_at_the_last_inputs() {
+    // ((2^32 - 1) * n + c) >> 32 is n up to n = c, and less above.
+    for c in 4294967280..=4294967295 {
+        let q = constants(1, 0, 1, 4294967295, c, 32, 0);
+        let least = Some(c + 1).filter(|&n| n < LAST_END);
+        try_around(q, LAST_END, least);
+        assert_eq!(harness::first_difference(q, LAST_END), Value(least));
+        assert_eq!(harness::check_bound(q, LAST_BOUND), plain::claim(least, LAST_BOUND));
+    }
+    // The quotient of n by d with a multiplier one too large differs first where m*n overtakes; ends on either side of it.
+    let mut random = Random::new(20);
+    let mut tried = 0;
+    while tried < 40 {
+        let d = random.within(2, 3000);
+        let k = 31 + i64::from(64 - d.leading_zeros());
+        if k > 47 {
+            continue;
+        }
+        let m = (1 << k) / d + random.within(0, 1);
+        if m > 4294967295 {
+            continue;
+        }
+        let q = constants(1, 0, d, m, 0, k, random.within(0, 1));
+        let Some(n) = plain::walk(q, LAST_END) else { continue };
+        for end in [n - 1, n, n + 1, LAST_END] {
+            try_around(q, end, Some(n).filter(|&n| n < end));
+        }
+        tried += 1;
+    }
+}
+
+#[test]
+fn every_limit_off_by_one() {
+    let inside = constants(1, 0, 10, 26, 0, 8, 0);
+    let refused = |q: Constants, end: i64, bound: i64| {
+        assert_eq!(harness::first_difference(q, end), Refused(9), "{q:?} below {end}");
+        assert_eq!(harness::check_bound(q, bound), Refused(9), "{q:?} at {bound}");
+    };
+    let accepted = |q: Constants| {
+        let least = plain::walk(q, 1000);
+        try_around(q, 1000, least);
+    };
+    for (first, last, set) in [
+        (1, 1023, (|x| Constants { a: x, ..constants(1, 0, 10, 26, 0, 8, 0) }) as fn(i64) -> Constants),
+        (0, 1023, |x| Constants { b: x, ..constants(1, 0, 10, 26, 0, 8, 0) }),
+        (1, 1048575, |x| Constants { d: x, ..constants(1, 0, 10, 26, 0, 8, 0) }),
+        (0, 4294967295, |x| Constants { m: x, ..constants(1, 0, 10, 26, 0, 8, 0) }),
+        (0, 4294967295, |x| Constants { c: x, ..constants(1, 0, 10, 26, 0, 8, 0) }),
+        (0, 47, |x| Constants { k: x, ..constants(1, 0, 10, 26, 0, 8, 0) }),
+        (0, 255, |x| Constants { t: x, ..constants(1, 0, 10, 26, 0, 8, 0) }),
+    ] {
+        accepted(set(first));
+        accepted(set(last));
+        for outside in [first - 1, last + 1, i64::MIN, i64::MAX] {
+            refused(set(outside), 0, 0);
+            refused(set(outside), 1000, 1000);
+            refused(set(outside), -1, -1);
+            refused(set(outside), LAST_END, LAST_BOUND);
+        }
+        for number in support::powers() {
+            if !(first..=last).contains(&number) {
+                refused(set(number), 1000, 1000);
+            }
+        }
+    }
+    refused(inside, LAST_END + 1, LAST_BOUND + 1);
+    assert_eq!(harness::first_difference(inside, LAST_END), Value(Some(69)));
+    assert_eq!(harness::check_bound(inside, LAST_BOUND), RefusedAt(10, 69));
+    for number in support::powers() {
+        let search = plain::search(inside, number, plain::walk);
+        assert_eq!(harness::first_difference(inside, number), search, "{number}");
+        let claim = if (0..=LAST_BOUND).contains(&number) { plain::claim(Some(69), number) } else { Refused(9) };
+        assert_eq!(harness::check_bound(inside, number), claim, "{number}");
+    }
+}
+
+#[test]
+fn several_limits_broken_at_once() {
+    let mut random = Random::new(21);
+    for _ in 0..500_000 {
+        let mut some = |first: i64, last: i64| {
+            let choices = [first, first, last, random.within(first, last), first - 1, last + 1, random.next() as i64];
+            random.choose(&choices)
+        };
+        let q = constants(
+            some(1, 1023),
+            some(0, 1023),
+            some(1, 60),
+            some(0, 4294967295),
+            some(0, 4294967295),
+            some(0, 47),
+            some(0, 255),
+        );
+        let end = some(0, 50);
+        assert_eq!(harness::first_difference(q, end), plain::search(q, end, plain::walk), "{q:?} below {end}");
+        let claim = if plain::allowed(q) && (0..=LAST_BOUND).contains(&end) {
+            plain::claim(plain::walk(q, end + 1), end)
+        } else {
+            Refused(9)
+        };
+        assert_eq!(harness::check_bound(q, end), claim, "{q:?} at {end}");
+    }
+}
+
+#[test]
+fn answers_of_every_length() {
+    // SAFETY: the pointer and the length are those of the slice that is lent.
+    for k in [8, 48] {
+        for end in [0, 69, 79] {
+            support::try_answer_lengths(3, |x| unsafe {
+                raw::harness_first_difference(1, 0, 10, 26, 0, k, 0, end, x.as_mut_ptr(), x.len())
+            });
+            support::try_answer_lengths(3, |x| unsafe {
+                raw::harness_check_bound(1, 0, 10, 26, 0, k, 0, end, x.as_mut_ptr(), x.len())
+            });
+        }
+    }
+}

@@ -1,0 +1,50 @@
+//! What the tests share: an independent implementation of document 01, random numbers and numbers that are worth trying.
+#![allow(dead_code)] // each test file uses its own part
+
+pub mod plain;
+pub mod random;
+
+/// The numbers within 2 of each power of two and its negative, of 0 and of the ends of the signed 64-bit numbers.
+pub fn powers() -> Vec<i64> {
+    let mut numbers = vec![i64::MIN, i64::MIN + 1, i64::MIN + 2, i64::MAX - 2, i64::MAX - 1, i64::MAX];
+    for power in (0..63).map(|k| 1i64 << k) {
+        for near in -2..=2 {
+            numbers.extend([power + near, -power + near]);
+        }
+    }
+    numbers.sort();
+    numbers.dedup();
+    numbers
+}
+
+/// Calls with answers of every length from 0 to 4 more than `whole`: a shorter one is left alone; a longer one has the
+/// same front as one of the whole length, and its rest is left alone.
+pub fn try_answer_lengths(whole: usize, mut call: impl FnMut(&mut [i64])) {
+    const GUARD: i64 = -0x0123_4567_89ab_cdef;
+    let mut right = vec![GUARD; whole];
+    call(&mut right);
+    for length in 0..=whole + 4 {
+        let mut lent = vec![GUARD; length + 2];
+        call(&mut lent[1..=length]);
+        let mut expected = vec![GUARD; length + 2];
+        if length >= whole {
+            expected[1..=whole].copy_from_slice(&right);
+        }
+        assert_eq!(lent, expected, "an answer of {length} numbers");
+    }
+}
+
+/// Lends the call the middle of a buffer and answers the middle as it is afterwards. The 48 bytes on either side must
+/// stay as they were.
+pub fn with_guards(length: usize, fill: u8, call: impl FnOnce(&mut [u8])) -> Vec<u8> {
+    const AROUND: usize = 48;
+    let guard = |place: usize| (place as u8).wrapping_mul(37) ^ 0xa5;
+    let mut bytes: Vec<u8> = (0..length + 2 * AROUND).map(guard).collect();
+    let middle = AROUND..AROUND + length;
+    bytes[middle.clone()].fill(fill);
+    call(&mut bytes[middle.clone()]);
+    for (place, &byte) in bytes.iter().enumerate() {
+        assert!(middle.contains(&place) || byte == guard(place), "byte {place} is outside {middle:?} and changed");
+    }
+    bytes[middle].to_vec()
+}
