@@ -45,7 +45,18 @@ test-c: $(LIB) build/player
 test-rust: $(LIB) $(HARNESS)
 	cd rust && cargo test --release --quiet --features harness
 
-bench: $(LIB) $(HARNESS)
+# libstdc++'s calendar is one of the rivals where there is a C++ compiler.
+build/chrono/libovenquill_chrono.a: rust/benches/chrono.cpp
+	mkdir -p build/chrono
+	$(CXX) -O3 -std=c++20 -c $< -o build/chrono/chrono.o
+	ar rcs $@ build/chrono/chrono.o
+
+ifneq ($(shell command -v $(CXX)),)
+CHRONO := build/chrono/libovenquill_chrono.a
+bench: export OVENQUILL_CHRONO := $(CURDIR)/build/chrono
+endif
+
+bench: $(LIB) $(HARNESS) $(CHRONO)
 	cd rust && cargo bench --quiet --features harness
 
 install: $(LIB)
