@@ -27,6 +27,23 @@ unfolding civilAnswer dateOfCount
 on z y m d v e h =
     ap (λ t. cond t (refused 4) (value (dateOfCount z))) h ∙ ap value (date-at (since firstCount z) y m d v e)
 
+-- each n up to the difference is asked
+tenth-row : searchAnswer (pos 1) (pos 0) (pos 10) (pos 26) (pos 0) (pos 8) (pos 0) (pos 4294967295) ≡ value (at 69)
+unfolding outsideLimits difference differs exactQuotient deviceQuotient leastBelow
+tenth-row = found-early (pos 1) (pos 0) (pos 10) (pos 26) (pos 0) (pos 8) (pos 0) (pos 4294967295) refl 70 69 refl (lit≤ tt)
+
+tenth-within-one-row : searchAnswer (pos 1) (pos 0) (pos 10) (pos 26) (pos 0) (pos 8) (pos 1) (pos 4294967295) ≡ value (at 709)
+unfolding outsideLimits difference differs exactQuotient deviceQuotient leastBelow
+tenth-within-one-row = found-early (pos 1) (pos 0) (pos 10) (pos 26) (pos 0) (pos 8) (pos 1) (pos 4294967295) refl 710 709 refl (lit≤ tt)
+
+tenth-too-small-row : searchAnswer (pos 1) (pos 0) (pos 10) (pos 25) (pos 0) (pos 8) (pos 0) (pos 4294967295) ≡ value (at 10)
+unfolding outsideLimits difference differs exactQuotient deviceQuotient leastBelow
+tenth-too-small-row = found-early (pos 1) (pos 0) (pos 10) (pos 25) (pos 0) (pos 8) (pos 0) (pos 4294967295) refl 11 10 refl (lit≤ tt)
+
+month-row : searchAnswer (pos 5) (pos 461) (pos 153) (pos 2141) (pos 197913) (pos 16) (pos 0) (pos 4294967295) ≡ value (at 734)
+unfolding outsideLimits difference differs exactQuotient deviceQuotient leastBelow
+month-row = found-early (pos 5) (pos 461) (pos 153) (pos 2141) (pos 197913) (pos 16) (pos 0) (pos 4294967295) refl 735 734 refl (lit≤ tt)
+
 pub record Table : Type 0 where
   pub first : (civilAnswer (negsuc 719527) ≡ value (date (pos 0) (pos 1) (pos 1))) × (weekdayAnswer (negsuc 719527) ≡ value (pos 6))
   pub leap-day-0 : civilAnswer (negsuc 719468) ≡ value (date (pos 0) (pos 2) (pos 29))
@@ -47,7 +64,7 @@ pub record Table : Type 0 where
   pub month : searchAnswer (pos 5) (pos 461) (pos 153) (pos 2141) (pos 197913) (pos 16) (pos 0) (pos 4294967295) ≡ value (at 734)
 
 pub table : Table
-unfolding dayAnswer dayOf outsideLimits difference differs exactQuotient deviceQuotient leastBelow weekdayAnswer weekday count start leaps leapDay leapℕ before monthDays
+unfolding dayAnswer dayOf weekdayAnswer weekday count start leaps leapDay leapℕ before monthDays
 table =
     record {
       first = (on (negsuc 719527) 400 1 1 (omega arith) refl refl, refl);
@@ -62,8 +79,8 @@ table =
       last = (on (pos 2932896) 10399 12 31 (omega arith) refl refl, refl);
       day-before-epoch = refl;
       two-days-before-epoch = refl;
-      tenth = found-early (pos 1) (pos 0) (pos 10) (pos 26) (pos 0) (pos 8) (pos 0) (pos 4294967295) refl 70 69 refl (lit≤ tt);
-      tenth-within-one = found-early (pos 1) (pos 0) (pos 10) (pos 26) (pos 0) (pos 8) (pos 1) (pos 4294967295) refl 710 709 refl (lit≤ tt);
-      tenth-too-small = found-early (pos 1) (pos 0) (pos 10) (pos 25) (pos 0) (pos 8) (pos 0) (pos 4294967295) refl 11 10 refl (lit≤ tt);
-      month = found-early (pos 5) (pos 461) (pos 153) (pos 2141) (pos 197913) (pos 16) (pos 0) (pos 4294967295) refl 735 734 refl (lit≤ tt);
+      tenth = tenth-row;
+      tenth-within-one = tenth-within-one-row;
+      tenth-too-small = tenth-too-small-row;
+      month = month-row;
     }
