@@ -10,7 +10,9 @@ use Rattle.labels.specs.Written.{writeAnswer, writtenBuffer}
 use lib.Seq.{take-suc, drop-cons, set-at, append-snoc, length-take-le}
 
 -- one byte more
-pub more : (buffer label : List ℕ) (i : ℕ) → i < length label → length label ≤ length buffer → set (take i label ++ drop i buffer) i (getD label i 0) ≡ take (i + 1) label ++ drop (i + 1) buffer
+pub more :
+    (buffer label : List ℕ) (i : ℕ) → i < length label → length label ≤ length buffer →
+    set (take i label ++ drop i buffer) i (getD label i 0) ≡ take (i + 1) label ++ drop (i + 1) buffer
 more buffer label i h l =
     let h′ : i < length buffer = omega arith in
     let k : i ≤ length label = omega arith in
@@ -22,7 +24,9 @@ more buffer label i h l =
 abbrev pub Writes : Outcome (List ℕ) → (before after : List ℕ) → Outcome ℕ → Type 0
 Writes o before after r = (r ≡ writeAnswer o before) × (after ≡ writtenBuffer o before)
 
-pub renamed : (before : List ℕ) {label after : List ℕ} {o : Outcome (List ℕ)} {r : Outcome ℕ} → value label ≡ o → Writes (value label) before after r → Writes o before after r
+pub renamed :
+    (before : List ℕ) {label after : List ℕ} {o : Outcome (List ℕ)} {r : Outcome ℕ} → value label ≡ o →
+    Writes (value label) before after r → Writes o before after r
 renamed before {after = after} {r = r} e = subst (λ o. Writes o before after r) e
 
 pub nothing-written : (before : List ℕ) {n : ℕ} {o : Outcome (List ℕ)} → refused n ≡ o → Writes o before before (refused n)

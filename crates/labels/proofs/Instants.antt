@@ -1,8 +1,8 @@
 -- The fields of an instant have room in its label, and what the code writes of them is the label.
-use Prim.Native.Nat.{ℕ, _+_, _/_, _%_, _≤_, _<_, _^_}
-use mathlib.Core.Path.{_≡_, refl, sym, ap, ap₂, _∙_, subst}
-use mathlib.Core.Bool.{Bool, true, false, cond, _||_}
-use mathlib.Core.List.{List, [], _∷_, _++_}
+use Prim.Native.Nat.{ℕ, _+_, _≤_, _<_, _^_}
+use mathlib.Core.Path.{_≡_, sym, ap, _∙_, subst}
+use mathlib.Core.Bool.{false}
+use mathlib.Core.List.{_++_}
 use native.Mathlib.Omega.{arith}
 use lib.Dec.{T, lit<}
 use lib.IntN.{ℤ, pos, natAbs}
@@ -10,25 +10,21 @@ use lib.Signed.{nonNeg}
 use mir.Syntax.{w32, w64}
 use mir.Val.{SFits, Fits, toZ}
 use mir.Facts.{toZ-ofZ, toZ-pos}
-use Rattle.refusal.specs.Outcome.{Outcome, value, refused}
+use Rattle.refusal.specs.Outcome.{value}
 use Rattle.numbers.specs.Range.{outside}
-use Rattle.numbers.proofs.Integers.{no-both}
 use Rattle.numbers.proofs.Machine.{read, pos-fits, cast-pos}
 use Rattle.numbers.proofs.Between.{Within, within, inside-pos}
-use Rattle.calendar.specs.Range.{firstYear, lastYear}
-use Rattle.calendar.specs.Gregorian.{monthLength, date}
+use Rattle.calendar.specs.Gregorian.{date}
 use Rattle.calendar.specs.Answers.{daysAnswer}
 use Rattle.calendar.specs.declared.Date.{Date}
 use Rattle.calendar.specs.Count.{countOfDate}
 use Rattle.calendar.proofs.Tests.{accepted-valid}
-use Rattle.calendar.proofs.Dates as C
-use Rattle.instant.specs.Instant.{timeOfFields, instantAt}
-use Rattle.instant.specs.Answers.{badTime, fieldsAnswer, joinAnswer}
+use Rattle.calendar.proofs.Dates as calendar
+use Rattle.instant.specs.Answers.{fieldsAnswer, joinAnswer}
 use Rattle.instant.specs.declared.Fields.{Fields}
-use Rattle.instant.proofs.Times as T
+use Rattle.instant.proofs.Times as times
 use Rattle.instant.proofs.Joined.{join-accepted}
 use Rattle.instant.proofs.Laws.{split-join}
-use Rattle.labels.specs.Digits.{digits}
 use Rattle.labels.specs.Rfc3339.{dateText, timeText, labelText}
 use Rattle.labels.specs.Pairs.{Narrow, NarrowFields, spelledText}
 use Rattle.labels.proofs.Spelling.{label-spelled}
@@ -46,12 +42,12 @@ unfolding daysAnswer
 joined-narrow year month day hour minute second millisecond ms e =
     let a = join-accepted year month day hour minute second millisecond ms (sym e) in
     let v = accepted-valid year month day countOfDate (a .count) (a .days) in
-    let n = C.natural (date year month day) v in
-    let c = T.natural hour minute second millisecond (a .not-bad) in
+    let n = calendar.natural (date year month day) v in
+    let c = times.natural hour minute second millisecond (a .not-bad) in
     record {
       year-within = v .year-inside;
       month-within = ap (λ (d : Date). outside (pos 0) (pos 99) (d .month)) (n .is) ∙ inside-pos 0 99 (n .m) (omega arith) (omega (arith, n .valid .month-high));
-      day-within = ap (λ (d : Date). outside (pos 0) (pos 99) (d .day)) (n .is) ∙ inside-pos 0 99 (n .d) (omega arith) (omega (arith, C.day-small (n .y) (n .m) (n .d) (n .valid)));
+      day-within = ap (λ (d : Date). outside (pos 0) (pos 99) (d .day)) (n .is) ∙ inside-pos 0 99 (n .d) (omega arith) (omega (arith, calendar.day-small (n .y) (n .m) (n .d) (n .valid)));
       hour-within = wider 99 (c .hour-within) (omega arith);
       minute-within = wider 99 (c .minute-within) (omega arith);
       second-within = wider 99 (c .second-within) (omega arith);
@@ -76,7 +72,8 @@ module _ (k : ℕ) (h : k < 2 ^ 32) (z : ℤ) (e : outside (pos 0) (pos k) z ≡
   read-below = let w = within k z e in let l = w .small in omega (arith, abs-read)
 
 module _ (f : Fields) (n : NarrowFields f) where
-  pub narrow-read : Narrow (natAbs (read (f .year))) (natAbs (read (f .month))) (natAbs (read (f .day))) (natAbs (read (f .hour))) (natAbs (read (f .minute))) (natAbs (read (f .second))) (natAbs (read (f .millisecond)))
+  pub narrow-read :
+      Narrow (natAbs (read (f .year))) (natAbs (read (f .month))) (natAbs (read (f .day))) (natAbs (read (f .hour))) (natAbs (read (f .minute))) (natAbs (read (f .second))) (natAbs (read (f .millisecond)))
   narrow-read =
       record {
         year-below = read-below 9999 (lit< tt) (f .year) (n .year-within);
@@ -88,7 +85,9 @@ module _ (f : Fields) (n : NarrowFields f) where
         millisecond-below = read-below 999 (lit< tt) (f .millisecond) (n .millisecond-within);
       }
 
-  pub spelled-label : spelledText (natAbs (read (f .year))) (natAbs (read (f .month))) (natAbs (read (f .day))) (natAbs (read (f .hour))) (natAbs (read (f .minute))) (natAbs (read (f .second))) (natAbs (read (f .millisecond))) ≡ labelText f
+  pub spelled-label :
+      spelledText (natAbs (read (f .year))) (natAbs (read (f .month))) (natAbs (read (f .day))) (natAbs (read (f .hour)))
+      (natAbs (read (f .minute))) (natAbs (read (f .second))) (natAbs (read (f .millisecond))) ≡ labelText f
   spelled-label =
       let y = abs-read 9999 (lit< tt) (f .year) (n .year-within) in
       let o = abs-read 99 (lit< tt) (f .month) (n .month-within) in

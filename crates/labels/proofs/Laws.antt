@@ -2,7 +2,7 @@
 use Prim.Native.Nat.{ℕ, _+_, _-_, _*_, _/_, _%_, _^_, _≤_, _<_}
 use mathlib.Core.Path.{_≡_, refl, sym, ap, ap₂, _∙_}
 use mathlib.Core.Bool.{Bool, true, false, cond}
-use mathlib.Core.List.{List, [], _∷_, _++_}
+use mathlib.Core.List.{List, _++_}
 use native.Mathlib.Nat.{div-add-mod'}
 use native.Mathlib.Omega.{arith}
 use lib.Dec.{ltb, lit<}
@@ -10,7 +10,7 @@ use lib.IntN.{ℤ, pos, natAbs}
 use lib.ListN.{length, take, drop, length-append}
 use lib.Seq.{take-at, drop-at}
 use borrow.Author.Tests.{ltb-true, ltb-false}
-use Rattle.refusal.specs.Outcome.{Outcome, value, refused}
+use Rattle.refusal.specs.Outcome.{value, refused}
 use Rattle.numbers.specs.Range.{outside}
 use Rattle.numbers.proofs.Integers.{outside-no}
 use Rattle.numbers.proofs.Between.{within, inside-pos}
@@ -26,7 +26,7 @@ use Rattle.labels.specs.Rfc3339.{decimals, dateText, timeText, dateShape
 use Rattle.labels.specs.Pairs.{NarrowFields}
 use Rattle.labels.specs.Webvtt.{lastPosition, hourDigits, afterHours, positionText, positionLabel}
 use Rattle.labels.proofs.Decimal.{number-digits, number-below, length-digits}
-use Rattle.labels.proofs.Spelling.{within-hour, within-hour-ms}
+use Rattle.labels.proofs.Spelling.{within-hour}
 use Rattle.labels.proofs.Positions.{in-range}
 use Rattle.labels.proofs.Shapes.{fits-both}
 use Rattle.labels.proofs.Texts.{date-back, time-back, date-fits, time-fits}
@@ -35,7 +35,8 @@ use Rattle.labels.proofs.Instants.{fields-narrow}
 -- ---- positions
 
 -- the number of digits of the hours, by their size
-by-hours : (P : ℕ → Type 0) (h : ℕ) → (h < 100 → P 2) → (100 ≤ h → h < 1000 → P 3) → (1000 ≤ h → h < 10000 → P 4) → (10000 ≤ h → P 5) → P (hourDigits h)
+by-hours :
+    (P : ℕ → Type 0) (h : ℕ) → (h < 100 → P 2) → (100 ≤ h → h < 1000 → P 3) → (1000 ≤ h → h < 10000 → P 4) → (10000 ≤ h → P 5) → P (hourDigits h)
 by-hours P h p2 p3 p4 p5 = go (ltb h 100) (ltb h 1000) (ltb h 10000) refl refl refl
   where
     go : (a b c : Bool) → ltb h 100 ≡ a → ltb h 1000 ≡ b → ltb h 10000 ≡ c → P (cond a 2 (cond b 3 (cond c 4 5)))
@@ -50,7 +51,9 @@ length-position n =
     ∙ ap (λ l. l + 10) (length-digits (n / 3600000) (hourDigits (n / 3600000)))
 
 -- a position label is 12, 13, 14 or 15 bytes long, by the size of the hours
-pub position-length : (n : ℕ) → length (positionText n) ≡ cond (ltb (n / 3600000) 100) 12 (cond (ltb (n / 3600000) 1000) 13 (cond (ltb (n / 3600000) 10000) 14 15))
+pub position-length :
+    (n : ℕ) → length (positionText n)
+    ≡ cond (ltb (n / 3600000) 100) 12 (cond (ltb (n / 3600000) 1000) 13 (cond (ltb (n / 3600000) 10000) 14 15))
 position-length n = length-position n ∙ go (ltb (n / 3600000) 100) (ltb (n / 3600000) 1000) (ltb (n / 3600000) 10000)
   where
     go : (a b c : Bool) → cond a 2 (cond b 3 (cond c 4 5)) + 10 ≡ cond a 12 (cond b 13 (cond c 14 15))
@@ -90,7 +93,9 @@ position-back n last =
     ∙ ap₂ (λ a b. a * 3600000 + b) (number-digits h w b) (after-hours-back n)
     ∙ div-add-mod' n 3600000
 
-accepted : (z : ℤ) (label : List ℕ) → positionLabel z ≡ value label → (positionText (natAbs z) ≡ label) × (outside (pos 0) lastPosition z ≡ false)
+accepted :
+    (z : ℤ) (label : List ℕ) → positionLabel z ≡ value label →
+    (positionText (natAbs z) ≡ label) × (outside (pos 0) lastPosition z ≡ false)
 unfolding positionLabel
 accepted z label = go (outside (pos 0) lastPosition z)
   where
@@ -118,7 +123,9 @@ field-back k count h z e =
     let l = w .small in
     ap pos (number-digits (natAbs z) count (omega arith)) ∙ sym (w .is)
 
-fields-back : (f : Fields) → NarrowFields f → readFields (labelText f) (drop 10 (labelText f)) ≡ joinAnswer (f .year) (f .month) (f .day) (f .hour) (f .minute) (f .second) (f .millisecond)
+fields-back :
+    (f : Fields) → NarrowFields f →
+    readFields (labelText f) (drop 10 (labelText f)) ≡ joinAnswer (f .year) (f .month) (f .day) (f .hour) (f .minute) (f .second) (f .millisecond)
 fields-back f n =
     let y = field-back 9999 4 (lit< tt) (f .year) (n .year-within) in
     let o = field-back 99 2 (lit< tt) (f .month) (n .month-within) in
@@ -153,7 +160,9 @@ unfolding fieldsAnswer
 write-read ms h = fields-read ms (fieldsOf ms) (ap (λ t. cond t (refused 4) (value (fieldsOf ms))) h)
 
 -- an accepted label has the shape, and its fields make the instant
-read-accepted : (label : List ℕ) (ms : ℤ) → readAnswer label ≡ value ms → (fits (dateShape ++ timeShape decimals) label ≡ true) × (readFields label (drop 10 label) ≡ value ms)
+read-accepted :
+    (label : List ℕ) (ms : ℤ) → readAnswer label ≡ value ms →
+    (fits (dateShape ++ timeShape decimals) label ≡ true) × (readFields label (drop 10 label) ≡ value ms)
 unfolding readAnswer
 read-accepted label ms = go (fits (dateShape ++ timeShape decimals) label)
   where
@@ -162,7 +171,10 @@ read-accepted label ms = go (fits (dateShape ++ timeShape decimals) label)
     go false e = absurd (let z : _≡_ {A = ℕ} 0 1 = cc in omega arith)
 
 -- a text of the shape is the text of its numbers
-label-back : (label : List ℕ) → fits (dateShape ++ timeShape decimals) label ≡ true → dateText (numberAt 0 4 label) (numberAt 5 2 label) (numberAt 8 2 label) ++ timeText decimals (numberAt 1 2 (drop 10 label)) (numberAt 4 2 (drop 10 label)) (numberAt 7 2 (drop 10 label)) (numberAt 10 decimals (drop 10 label)) ≡ label
+label-back :
+    (label : List ℕ) → fits (dateShape ++ timeShape decimals) label ≡ true →
+    dateText (numberAt 0 4 label) (numberAt 5 2 label) (numberAt 8 2 label)
+    ++ timeText decimals (numberAt 1 2 (drop 10 label)) (numberAt 4 2 (drop 10 label)) (numberAt 7 2 (drop 10 label)) (numberAt 10 decimals (drop 10 label)) ≡ label
 label-back label h =
     let d = date-back (timeShape decimals) label h in
     sym (d .0 ∙ ap (λ l. dateText (numberAt 0 4 label) (numberAt 5 2 label) (numberAt 8 2 label) ++ l) (time-back decimals (drop 10 label) (d .1)))
@@ -173,7 +185,9 @@ unfolding instantLabel
 read-write label ms e =
     let a = read-accepted label ms e in
     let t = drop 10 label in
-    ap labelOf (join-split (pos (numberAt 0 4 label)) (pos (numberAt 5 2 label)) (pos (numberAt 8 2 label)) (pos (numberAt 1 2 t)) (pos (numberAt 4 2 t)) (pos (numberAt 7 2 t)) (pos (numberAt 10 decimals t)) ms (a .1))
+    ap labelOf
+    (join-split (pos (numberAt 0 4 label)) (pos (numberAt 5 2 label)) (pos (numberAt 8 2 label)) (pos (numberAt 1 2 t)) (pos (numberAt 4 2 t))
+    (pos (numberAt 7 2 t)) (pos (numberAt 10 decimals t)) ms (a .1))
     ∙ ap value (label-back label (a .0))
 
 -- an instant label has 24 bytes
@@ -190,7 +204,9 @@ later-refusal false true t v e = let z : _≡_ {A = ℕ} 3 1 = cc in omega arith
 later-refusal false false true v e = let z : _≡_ {A = ℕ} 5 1 = cc in omega arith
 later-refusal false false false v e = let z : _≡_ {A = ℕ} 0 1 = cc in omega arith
 
-join-year : (year month day hour minute second millisecond : ℤ) → outside firstYear lastYear year ≡ false → joinAnswer year month day hour minute second millisecond ≡ refused 1 → ⊥
+join-year :
+    (year month day hour minute second millisecond : ℤ) → outside firstYear lastYear year ≡ false →
+    joinAnswer year month day hour minute second millisecond ≡ refused 1 → ⊥
 unfolding joinAnswer ofDate
 join-year year month day hour minute second millisecond h e =
     later-refusal (outside (pos 1) (pos 12) month) (outside (pos 1) (monthLength year month) day) (badTime hour minute second millisecond)

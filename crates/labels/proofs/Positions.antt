@@ -1,7 +1,7 @@
 -- A tested position as a natural number, and its label.
 use Prim.Native.Nat.{ℕ, _<_}
-use mathlib.Core.Path.{_≡_, refl, sym, ap, _∙_, subst}
-use mathlib.Core.Bool.{Bool, true, false, cond}
+use mathlib.Core.Path.{_≡_, refl, ap, _∙_}
+use mathlib.Core.Bool.{true, false}
 use mathlib.Core.List.{List}
 use native.Mathlib.Omega.{arith}
 use lib.IntN.{ℤ, pos, negsuc, natAbs}
@@ -11,9 +11,9 @@ use mir.Syntax.{w64}
 use mir.Val.{SFits}
 use mir.Facts.{toZ-ofZ}
 use Rattle.refusal.specs.Outcome.{Outcome, value, refused}
-use Rattle.numbers.specs.Range.{outside}
 use Rattle.numbers.proofs.Integers.{no-both}
 use Rattle.numbers.proofs.Machine.{read, tested-below, tested-above, tested-inside}
+use Rattle.labels.proofs.Copy.{Writes, renamed}
 use Rattle.labels.specs.Webvtt.{lastPosition, positionText, positionLabel}
 
 pub in-range : (z : ℤ) → ltZ z (pos 0) ≡ false → ltZ lastPosition z ≡ false → (z ≡ pos (natAbs z)) × (natAbs z < 360000000000)
@@ -29,6 +29,12 @@ module _ {z : ℤ} (f : SFits w64 z) where
   unfolding positionLabel
   above-range lo hi = rw (tested-above (pos 0) lastPosition f lo hi)
 
-  pub labelled : ltZ (read z) (pos 0) ≡ false → ltZ lastPosition (read z) ≡ false → value (positionText (natAbs (read z))) ≡ positionLabel z
+  labelled : ltZ (read z) (pos 0) ≡ false → ltZ lastPosition (read z) ≡ false → value (positionText (natAbs (read z))) ≡ positionLabel z
   unfolding positionLabel
   labelled lo hi = rw (tested-inside (pos 0) lastPosition f lo hi) (ap (λ z. value (positionText (natAbs z))) (toZ-ofZ f))
+
+  -- what is written is the label, if its text is
+  pub label-written :
+      ltZ (read z) (pos 0) ≡ false → ltZ lastPosition (read z) ≡ false → (before : List ℕ) {text after : List ℕ} {r : Outcome ℕ} →
+      text ≡ positionText (natAbs (read z)) → Writes (value text) before after r → Writes (positionLabel z) before after r
+  label-written lo hi before e = renamed before (ap value e ∙ labelled lo hi)

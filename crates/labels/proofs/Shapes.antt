@@ -4,12 +4,11 @@ use mathlib.Core.Path.{_≡_, refl, sym, ap, ap₂, _∙_}
 use mathlib.Core.Bool.{Bool, true, false, _&&_}
 use mathlib.Core.List.{List, [], _∷_, _++_}
 use native.Mathlib.Numerals.{add-one}
-use native.Mathlib.Nat.{suc-inj}
 use native.Mathlib.Omega.{arith}
 use borrow.Author.Tests.{eqb-true}
 use lib.Dec.{eqb}
 use lib.ListN.{length, getD, take, drop, replicate, drop-of-length-le, take-append-drop}
-use lib.Seq.{drop-cons, drop-drop, length-take-le}
+use lib.Seq.{drop-cons, drop-drop}
 use Rattle.numbers.proofs.Integers.{no-both}
 use Rattle.labels.specs.Digits.{digits, number, isDigit, fitsOne, fits}
 use Rattle.labels.proofs.Decimal.{and-left, and-right, is-digit, allDigits, digits-number, length-digits}
@@ -73,7 +72,9 @@ zeros-fit (suc count) (b ∷ bs) h =
 
 -- digits at the front of a text that fits, and a mark there, from byte i of the text on
 module _ (text : List ℕ) (i : ℕ) (shape : List ℕ) where
-  pub digits-front : (count : ℕ) → fits (digits 0 count ++ shape) (drop i text) ≡ true → (drop i text ≡ digits (number (take count (drop i text))) count ++ drop (i + count) text) × (fits shape (drop (i + count) text) ≡ true)
+  pub digits-front :
+      (count : ℕ) → fits (digits 0 count ++ shape) (drop i text) ≡ true →
+      (drop i text ≡ digits (number (take count (drop i text))) count ++ drop (i + count) text) × (fits shape (drop (i + count) text) ≡ true)
   digits-front count h =
       let f = rw (fits-append (digits 0 count) shape (drop i text), length-digits 0 count) at h in
       let z = zeros-fit count (take count (drop i text)) (sym (ap (λ s. fits s (take count (drop i text))) (zeros count)) ∙ and-left _ _ f) in
@@ -81,7 +82,9 @@ module _ (text : List ℕ) (i : ℕ) (shape : List ℕ) where
       let e : drop count (drop i text) ≡ drop (i + count) text = drop-drop count i text in
       (sym (take-append-drop count (drop i text)) ∙ ap₂ _++_ (sym d) e, sym (ap (fits shape) e) ∙ and-right (fits (digits 0 count) (take count (drop i text))) _ f)
 
-  pub mark-front : (mark : ℕ) → isDigit mark ≡ false → fits (mark ∷ shape) (drop i text) ≡ true → (drop i text ≡ mark ∷ drop (i + 1) text) × (fits shape (drop (i + 1) text) ≡ true)
+  pub mark-front :
+      (mark : ℕ) → isDigit mark ≡ false → fits (mark ∷ shape) (drop i text) ≡ true →
+      (drop i text ≡ mark ∷ drop (i + 1) text) × (fits shape (drop (i + 1) text) ≡ true)
   mark-front mark m h = go (drop i text) refl h
     where
       go : (l : List ℕ) → drop i text ≡ l → fits (mark ∷ shape) l ≡ true → (l ≡ mark ∷ drop (i + 1) text) × (fits shape (drop (i + 1) text) ≡ true)

@@ -1,7 +1,7 @@
 -- The texts as the code spells them are the labels.
-use Prim.Native.Nat.{ℕ, _+_, _*_, _/_, _%_, _≤_, _<_}
-use mathlib.Core.Path.{_≡_, refl, sym, ap, ap₂, _∙_}
-use mathlib.Core.List.{List, [], _∷_, _++_}
+use Prim.Native.Nat.{ℕ, _/_, _%_, _≤_, _<_}
+use mathlib.Core.Path.{_≡_, ap, ap₂, _∙_}
+use mathlib.Core.List.{[], _∷_, _++_}
 use native.Mathlib.Omega.{arith}
 use native.Mathlib.Nat.{div-div-eq-div-mul}
 use borrow.Author.Tests.{lt-ltb, le-ltb}
@@ -44,7 +44,9 @@ four-digits n h =
     let d : n % 100 % 10 ≡ n % 10 = omega arith in
     cc (place-10 n)
 
-pub label-spelled : {year month day hour minute second millisecond : ℕ} → Narrow year month day hour minute second millisecond → spelledText year month day hour minute second millisecond ≡ dateText year month day ++ timeText 3 hour minute second millisecond
+pub label-spelled :
+    {year month day hour minute second millisecond : ℕ} → Narrow year month day hour minute second millisecond →
+    spelledText year month day hour minute second millisecond ≡ dateText year month day ++ timeText 3 hour minute second millisecond
 label-spelled {year} {month} {day} {hour} {minute} {second} {millisecond} n =
     ap₂ (λ a b. a ++ 45 ∷ b) (four-digits year (n .year-below))
     (ap₂ (λ a b. a ++ 45 ∷ b) (two-digits month (n .month-below))

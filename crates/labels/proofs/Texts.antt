@@ -1,18 +1,18 @@
 -- Dates and times as text, both ways: a text of that shape is the text of its numbers, and the numbers of a text are those written.
-use Prim.Native.Nat.{ℕ, _+_, _<_, _^_}
-use mathlib.Core.Path.{_≡_, refl, sym, ap, _∙_}
+use Prim.Native.Nat.{ℕ, _+_}
+use mathlib.Core.Path.{_≡_, refl, ap, _∙_}
 use mathlib.Core.Bool.{true}
 use mathlib.Core.List.{List, [], _∷_, _++_}
-use lib.ListN.{take, drop}
-use lib.Seq.{take-at}
-use Rattle.labels.specs.Digits.{digits, number, numberAt, fits}
+use lib.ListN.{drop}
+use Rattle.labels.specs.Digits.{digits, numberAt, fits}
 use Rattle.labels.specs.Rfc3339.{dateText, timeText, dateShape, timeShape}
-use Rattle.labels.proofs.Decimal.{number-digits, length-digits}
 use Rattle.labels.proofs.Shapes.{digits-front, mark-front, fits-both, digits-fit, fits-nothing}
 
 -- ---- a text of the shape is the text of its numbers
 
-pub date-back : (rest label : List ℕ) → fits (dateShape ++ rest) label ≡ true → (label ≡ dateText (numberAt 0 4 label) (numberAt 5 2 label) (numberAt 8 2 label) ++ drop 10 label) × (fits rest (drop 10 label) ≡ true)
+pub date-back :
+    (rest label : List ℕ) → fits (dateShape ++ rest) label ≡ true →
+    (label ≡ dateText (numberAt 0 4 label) (numberAt 5 2 label) (numberAt 8 2 label) ++ drop 10 label) × (fits rest (drop 10 label) ≡ true)
 date-back rest label h =
     let y = digits-front label 0 (45 ∷ digits 0 2 ++ 45 ∷ digits 0 2 ++ rest) 4 h in
     let a = mark-front label 4 (digits 0 2 ++ 45 ∷ digits 0 2 ++ rest) 45 refl (y .1) in
@@ -26,7 +26,9 @@ date-back rest label h =
     )
 
 module _ (decimals : ℕ) where
-  pub time-back : (part : List ℕ) → fits (timeShape decimals) part ≡ true → part ≡ timeText decimals (numberAt 1 2 part) (numberAt 4 2 part) (numberAt 7 2 part) (numberAt 10 decimals part)
+  pub time-back :
+      (part : List ℕ) → fits (timeShape decimals) part ≡ true →
+      part ≡ timeText decimals (numberAt 1 2 part) (numberAt 4 2 part) (numberAt 7 2 part) (numberAt 10 decimals part)
   time-back part f =
       let end = digits 0 decimals ++ 90 ∷ [] in
       let t = mark-front part 0 (digits 0 2 ++ 58 ∷ digits 0 2 ++ 58 ∷ digits 0 2 ++ 46 ∷ end) 84 refl f in

@@ -23,6 +23,7 @@ number = numberFrom 0
 abbrev pub numberAt : (at count : ℕ) → List ℕ → ℕ
 numberAt at count text = number (take count (drop at text))
 
+-- a byte of 48 to 57
 abbrev pub isDigit : ℕ → Bool
 isDigit byte = leb 48 byte && leb byte 57
 
@@ -30,6 +31,7 @@ isDigit byte = leb 48 byte && leb byte 57
 abbrev pub fitsOne : (shape byte : ℕ) → Bool
 fitsOne shape byte = cond (isDigit shape) (isDigit byte) (eqb byte shape)
 
+-- a text as long as the shape, each byte of which fits
 abbrev pub fits : (shape text : List ℕ) → Bool
 fits [] [] = true
 fits [] (b ∷ bs) = false

@@ -5,6 +5,9 @@ ghost use Prim.Native.Nat.{_+_, _-_, _≤_};
 ghost use lib.ListN.{length};
 ghost use Rattle.labels.specs.Digits.{number, numberAt, isDigit, fitsOne, fits as fitsText};
 
+// The byte of the digit 0.
+pub const ZERO: u32 = 48;
+
 // The number of `count` digits of a text from byte `at` on.
 pub fn field(text: &[u8], at: usize, count: usize) -> u32
     requires { ⌜ (count ≤ 7) × (at + count ≤ length (now text)) ⌝ }
@@ -31,10 +34,10 @@ fn number_of(text: &[u8]) -> u32
 fn digit(byte: u8) -> u32
     ensures { λ r. ⌜ r ≡ byte - 48 ⌝ }
 {
-    if byte < 48 {
+    if byte <= b'0' {
         return 0;
     }
-    (byte - 48) as u32
+    (byte - b'0') as u32
 }
 
 // Whether a text has a shape: a digit where the shape has one, and the same byte where it has another.
@@ -54,7 +57,8 @@ pub fn fits(shape: &[u8], text: &[u8]) -> bool
     true
 }
 
-fn fits_one(shape: u8, byte: u8) -> bool
+// Whether a byte fits one of a shape.
+pub fn fits_one(shape: u8, byte: u8) -> bool
     ensures { λ r. ⌜ r ≡ fitsOne shape byte ⌝ }
 {
     if is_digit(shape) {
@@ -66,8 +70,8 @@ fn fits_one(shape: u8, byte: u8) -> bool
 fn is_digit(byte: u8) -> bool
     ensures { λ r. ⌜ r ≡ isDigit byte ⌝ }
 {
-    if byte < 48 {
+    if byte < b'0' {
         return false;
     }
-    byte <= 57
+    byte <= b'9'
 }

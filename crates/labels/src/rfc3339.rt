@@ -3,15 +3,15 @@
 use crate::WriteAnswer;
 use crate::buffer;
 use crate::digits;
+use crate::digits::ZERO;
 use instant::Fields;
 use instant::FieldsAnswer;
 use instant::NumberAnswer;
 use refusal::Refusal;
 ghost use mathlib.Core.Path.{_≡_};
 ghost use Prim.Native.Nat.{_+_, _≤_};
-ghost use lib.IntN.{pos};
 ghost use lib.ListN.{length};
-ghost use Rattle.instant.specs.Answers.{joinAnswer};
+ghost use Rattle.instant.specs.Answers.{numberOutcome};
 ghost use Rattle.labels.specs.Digits.{fits};
 ghost use Rattle.labels.specs.Written.{writeOutcome, writeAnswer, writtenBuffer};
 ghost use Rattle.labels.specs.Rfc3339.{timeShape, labelText, instantLabel, readOutcome, readAnswer};
@@ -21,6 +21,9 @@ ghost use Rattle.labels.specs.Pairs.{Narrow, NarrowFields, spelledText, 
 const DECIMALS: usize = 3;
 
 const LENGTH: usize = 21 + DECIMALS;
+
+// The byte at which the time begins.
+const TIME: usize = 10;
 
 pub enum ReadAnswer {
     Value(i64),
@@ -34,15 +37,15 @@ pub fn write_instant(ms: i64, out: &mut [u8]) -> WriteAnswer
 {
     match instant::split_instant(ms) {
         FieldsAnswer::Value(fields) => {
-            let text = text_of(fields);
-            buffer::put(out, &text)
+            let label = label_of(fields);
+            buffer::put(out, &label)
         }
         FieldsAnswer::Refused(r) => WriteAnswer::Refused(r),
     }
 }
 
 // The label of an instant's fields.
-fn text_of(f: Fields) -> [u8; 24]
+fn label_of(f: Fields) -> [u8; LENGTH]
     requires { ⌜ NarrowFields f ⌝ }
     ensures { λ r. ⌜ r ≡ labelText f ⌝ }
 {
@@ -66,36 +69,36 @@ fn spelled(
     minute: u32,
     second: u32,
     millisecond: u32,
-) -> [u8; 24]
+) -> [u8; LENGTH]
     requires { ⌜ Narrow year month day hour minute second millisecond ⌝ }
     ensures { λ r. ⌜ r ≡ spelledText year month day hour minute second millisecond ⌝ }
 {
     let century = year / 100;
     let rest = year % 100;
     [
-        (48 + century / 10) as u8,
-        (48 + century % 10) as u8,
-        (48 + rest / 10) as u8,
-        (48 + rest % 10) as u8,
+        (ZERO + century / 10) as u8,
+        (ZERO + century % 10) as u8,
+        (ZERO + rest / 10) as u8,
+        (ZERO + rest % 10) as u8,
         b'-',
-        (48 + month / 10) as u8,
-        (48 + month % 10) as u8,
+        (ZERO + month / 10) as u8,
+        (ZERO + month % 10) as u8,
         b'-',
-        (48 + day / 10) as u8,
-        (48 + day % 10) as u8,
+        (ZERO + day / 10) as u8,
+        (ZERO + day % 10) as u8,
         b'T',
-        (48 + hour / 10) as u8,
-        (48 + hour % 10) as u8,
+        (ZERO + hour / 10) as u8,
+        (ZERO + hour % 10) as u8,
         b':',
-        (48 + minute / 10) as u8,
-        (48 + minute % 10) as u8,
+        (ZERO + minute / 10) as u8,
+        (ZERO + minute % 10) as u8,
         b':',
-        (48 + second / 10) as u8,
-        (48 + second % 10) as u8,
+        (ZERO + second / 10) as u8,
+        (ZERO + second % 10) as u8,
         b'.',
-        (48 + millisecond / 100) as u8,
-        (48 + millisecond % 100 / 10) as u8,
-        (48 + millisecond % 10) as u8,
+        (ZERO + millisecond / 100) as u8,
+        (ZERO + millisecond % 100 / 10) as u8,
+        (ZERO + millisecond % 10) as u8,
         b'Z',
     ]
 }
@@ -107,47 +110,30 @@ pub fn read_instant(label: &[u8]) -> ReadAnswer
     if label.len() != LENGTH {
         return ReadAnswer::Refused(Refusal::MalformedLabel);
     }
-    if !digits::fits(b"0000-00-00", &label[..10]) {
+    if !digits::fits(b"0000-00-00", &label[..TIME]) {
         return ReadAnswer::Refused(Refusal::MalformedLabel);
     }
     let year = digits::field(label, 0, 4);
     let month = digits::field(label, 5, 2);
     let day = digits::field(label, 8, 2);
-    match read_time(&label[10..], DECIMALS) {
-        Time::Read(hour, minute, second, millisecond) => joined(
-            year,
-            month,
-            day,
-            hour,
-            minute,
-            second,
-            millisecond,
-        ),
+    match read_time(&label[TIME..], DECIMALS) {
+        Time::Read(hour, minute, second, millisecond) => answered(instant::join_instant(
+            year as i64,
+            month as i64,
+            day as i64,
+            hour as i64,
+            minute as i64,
+            second as i64,
+            millisecond as i64,
+        )),
         Time::Malformed => ReadAnswer::Refused(Refusal::MalformedLabel),
     }
 }
 
-// The instant of fields.
-fn joined(
-    year: u32,
-    month: u32,
-    day: u32,
-    hour: u32,
-    minute: u32,
-    second: u32,
-    millisecond: u32,
-) -> ReadAnswer
-    ensures { λ r. ⌜ readOutcome r ≡ joinAnswer (pos year) (pos month) (pos day) (pos hour) (pos minute) (pos second) (pos millisecond) ⌝ }
+fn answered(answer: NumberAnswer) -> ReadAnswer
+    ensures { λ r. ⌜ readOutcome r ≡ numberOutcome answer ⌝ }
 {
-    match instant::join_instant(
-        year as i64,
-        month as i64,
-        day as i64,
-        hour as i64,
-        minute as i64,
-        second as i64,
-        millisecond as i64,
-    ) {
+    match answer {
         NumberAnswer::Value(ms) => ReadAnswer::Value(ms),
         NumberAnswer::Refused(r) => ReadAnswer::Refused(r),
     }
@@ -188,5 +174,5 @@ fn is_time(part: &[u8], decimals: usize) -> bool
     if !digits::fits(&zeros[..decimals], &part[10..end]) {
         return false;
     }
-    part[end] == b'Z'
+    digits::fits_one(b'Z', part[end])
 }

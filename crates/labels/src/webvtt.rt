@@ -2,6 +2,7 @@
 
 use crate::WriteAnswer;
 use crate::buffer;
+use crate::digits::ZERO;
 use refusal::Refusal;
 ghost use mathlib.Core.Path.{_≡_};
 ghost use Prim.Native.Nat.{_<_};
@@ -52,20 +53,20 @@ fn widest(hours: u32, rest: u32) -> [u8; 15]
     let seconds = rest % MS_PER_MINUTE / MS_PER_SECOND;
     let ms = rest % MS_PER_SECOND;
     [
-        (48 + hours / 10000) as u8,
-        (48 + hours % 10000 / 1000) as u8,
-        (48 + hours % 1000 / 100) as u8,
-        (48 + hours % 100 / 10) as u8,
-        (48 + hours % 10) as u8,
+        (ZERO + hours / 10000) as u8,
+        (ZERO + hours % 10000 / 1000) as u8,
+        (ZERO + hours % 1000 / 100) as u8,
+        (ZERO + hours % 100 / 10) as u8,
+        (ZERO + hours % 10) as u8,
         b':',
-        (48 + minutes / 10) as u8,
-        (48 + minutes % 10) as u8,
+        (ZERO + minutes / 10) as u8,
+        (ZERO + minutes % 10) as u8,
         b':',
-        (48 + seconds / 10) as u8,
-        (48 + seconds % 10) as u8,
+        (ZERO + seconds / 10) as u8,
+        (ZERO + seconds % 10) as u8,
         b'.',
-        (48 + ms / 100) as u8,
-        (48 + ms % 100 / 10) as u8,
-        (48 + ms % 10) as u8,
+        (ZERO + ms / 100) as u8,
+        (ZERO + ms % 100 / 10) as u8,
+        (ZERO + ms % 10) as u8,
     ]
 }

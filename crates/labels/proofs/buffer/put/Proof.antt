@@ -1,5 +1,6 @@
+-- The buffer is the label up to i, and behind it what it held before.
 use Prim.Native.Nat.{_≤_, _-_}
-use mathlib.Core.Path.{_≡_, sym, ap, _∙_}
+use mathlib.Core.Path.{_≡_, ap, _∙_}
 use mathlib.Core.List.{_++_}
 use native.Mathlib.Omega.{arith}
 use borrow.Author.Needs.{needs}
@@ -10,8 +11,6 @@ use Rattle.labels.proofs.Copy.{more}
 use Rattle.refusal.specs.Outcome.{value}
 use Rattle.labels.proofs.buffer.put.Statement.{statement}
 use Rattle.labels.proofs.buffer.put.Tie as tie
-use Rattle.labels.proofs.buffer.put.Reads as reads
-use Rattle.labels.proofs.buffer.put.Lts as lts
 
 abbrev Inv-loop : tie.InvT-loop
 Inv-loop out₀ label i₀ out i = (i ≤ length label) × ((length out ≡ length out₀) × (out ≡ take i label ++ drop i out₀))

@@ -1,3 +1,4 @@
+-- The part from `at` to the end has `count` bytes.
 use Prim.Native.Nat.{_+_, _-_}
 use mathlib.Core.Path.{_≡_, ap, _∙_}
 use native.Mathlib.Omega.{arith}
@@ -6,9 +7,6 @@ use Rattle.labels.specs.Digits.{number}
 use borrow.Author.Needs.{needs}
 use Rattle.labels.proofs.digits.field.Statement.{statement}
 use Rattle.labels.proofs.digits.field.Tie as tie
-use Rattle.labels.proofs.digits.field.Reads as reads
-use Rattle.labels.proofs.digits.field.Lts as lts
-use Rattle.labels.proofs.digits.number_of.Reads as number-of-reads
 
 add-end : tie.Need-add-end
 add-end c = search needs

@@ -1,3 +1,4 @@
+-- The text fits up to i, so it fits exactly if what is left does.
 use Prim.Native.Nat.{_≤_, _-_}
 use mathlib.Core.Path.{_≡_, sym, _∙_}
 use native.Mathlib.Omega.{arith}
@@ -8,9 +9,6 @@ use Rattle.labels.specs.Digits.{fits}
 use Rattle.labels.proofs.Shapes.{uneven, next-fits, no-fit, all-fit}
 use Rattle.labels.proofs.digits.fits.Statement.{statement}
 use Rattle.labels.proofs.digits.fits.Tie as tie
-use Rattle.labels.proofs.digits.fits.Reads as reads
-use Rattle.labels.proofs.digits.fits.Lts as lts
-use Rattle.labels.proofs.digits.fits_one.Reads as fits-one-reads
 
 abbrev Inv-loop : tie.InvT-loop
 Inv-loop shape text i₀ i = (i ≤ length shape) × (fits shape text ≡ fits (drop i shape) (drop i text))

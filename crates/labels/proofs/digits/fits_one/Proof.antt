@@ -2,9 +2,6 @@ use mathlib.Core.Path.{sym, _∙_}
 use borrow.Author.Needs.{needs}
 use Rattle.labels.proofs.digits.fits_one.Statement.{statement}
 use Rattle.labels.proofs.digits.fits_one.Tie as tie
-use Rattle.labels.proofs.digits.fits_one.Reads as reads
-use Rattle.labels.proofs.digits.fits_one.Lts as lts
-use Rattle.labels.proofs.digits.is_digit.Reads as is-digit-reads
 
 is-digit-requires : tie.Need-is-digit-requires
 is-digit-requires c κs = search needs

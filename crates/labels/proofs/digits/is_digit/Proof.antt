@@ -1,8 +1,6 @@
 use borrow.Author.Tests.{lt-leb, le-leb}
 use Rattle.labels.proofs.digits.is_digit.Statement.{statement}
 use Rattle.labels.proofs.digits.is_digit.Tie as tie
-use Rattle.labels.proofs.digits.is_digit.Reads as reads
-use Rattle.labels.proofs.digits.is_digit.Lts as lts
 
 returns : tie.Need-returns
 returns c = simp (lt-leb _ _ (c .if1 .taken))

@@ -1,3 +1,4 @@
+-- What is left of the text, read after n, makes the number of the whole text.
 use Prim.Native.Nat.{_+_, _-_, _*_, _^_, _≤_}
 use mathlib.Core.Path.{_≡_, sym, _∙_}
 use native.Mathlib.Omega.{arith}
@@ -7,9 +8,6 @@ use Rattle.labels.specs.Digits.{number, numberFrom}
 use Rattle.labels.proofs.Decimal.{next-digit, all-read, power-small, power-suc}
 use Rattle.labels.proofs.digits.number_of.Statement.{statement}
 use Rattle.labels.proofs.digits.number_of.Tie as tie
-use Rattle.labels.proofs.digits.number_of.Reads as reads
-use Rattle.labels.proofs.digits.number_of.Lts as lts
-use Rattle.labels.proofs.digits.digit.Reads as digit-reads
 
 abbrev Inv-loop : tie.InvT-loop
 Inv-loop text n₀ i₀ n i = (i ≤ length text) × ((number text ≡ numberFrom n (drop i text)) × (n + 23 ≤ 23 * 10 ^ i))

@@ -1,18 +1,13 @@
-use Prim.Native.Nat.{_+_, _-_}
-use mathlib.Core.Path.{_≡_, sym, ap, ap₂, _∙_}
-use mathlib.Core.Bool.{true, false}
+-- A part has the shape of a time exactly if its marks, its decimals and its last mark have.
+use mathlib.Core.Path.{sym, _∙_}
 use native.Mathlib.Omega.{arith}
 use borrow.Author.Tests.{not-true, not-false}
-use lib.ListN.{take, drop, replicate}
+use lib.ListN.{replicate}
 use lib.Seq.{length-take-le}
-use Rattle.labels.specs.Digits.{fits}
-use Rattle.labels.proofs.Reading.{timeHead, time-by-parts, some-zeros}
+use Rattle.labels.proofs.Reading.{time-by-parts, decimals-part}
 use borrow.Author.Needs.{needs}
 use Rattle.labels.proofs.rfc3339.is_time.Statement.{statement}
 use Rattle.labels.proofs.rfc3339.is_time.Tie as tie
-use Rattle.labels.proofs.rfc3339.is_time.Reads as reads
-use Rattle.labels.proofs.rfc3339.is_time.Lts as lts
-use Rattle.labels.proofs.digits.fits.Reads as fits-reads
 
 add-end : tie.Need-add-end
 add-end c = search needs
@@ -54,24 +49,23 @@ returns-2 : tie.Need-returns-2
 returns-2 c =
     let s = c .before .before .before .before .before .before .before .before .before in
     let t = time-by-parts (s .args .decimals) (s .args .part .now) (s .pre .1) in
-    let a : fits timeHead (take 10 (s .args .part .now)) ≡ true = sym (c .before .before .before .before .before .fits2 .ensures) ∙ not-false _ (c .before .before .before .before .if1 .left) in
-    let n : 10 + s .args .decimals - 10 ≡ s .args .decimals = omega arith in
-    let b : fits (replicate (s .args .decimals) 48) (take (s .args .decimals) (drop 10 (s .args .part .now))) ≡ false =
-    sym (c .before .fits3 .ensures ∙ ap₂ (λ z n. fits z (take n (drop 10 (s .args .part .now)))) (some-zeros (s .args .decimals) 6 (s .pre .0)) n) ∙ not-true _ (c .if2 .taken) in
+    let a = sym (c .before .before .before .before .before .fits2 .ensures) ∙ not-false _ (c .before .before .before .before .if1 .left) in
+    let b = sym (c .before .fits3 .ensures ∙ decimals-part (s .args .decimals) 6 (s .args .part .now) (s .pre .0)) ∙ not-true _ (c .if2 .taken) in
     sym (t ∙ rw (a, b))
 
-shared-slice-read-result : tie.Need-shared-slice-read-result
-shared-slice-read-result c = search needs
+shared-slice-read-fits-one : tie.Need-shared-slice-read-fits-one
+shared-slice-read-fits-one c = search needs
+
+fits-one-requires : tie.Need-fits-one-requires
+fits-one-requires c κs = search needs
 
 returns-3 : tie.Need-returns-3
 returns-3 c =
-    let s = c .before .before .before .before .before .before .before .before .before .before in
+    let s = c .before .before .before .before .before .before .before .before .before .before .before in
     let t = time-by-parts (s .args .decimals) (s .args .part .now) (s .pre .1) in
-    let a : fits timeHead (take 10 (s .args .part .now)) ≡ true = sym (c .before .before .before .before .before .before .fits2 .ensures) ∙ not-false _ (c .before .before .before .before .before .if1 .left) in
-    let n : 10 + s .args .decimals - 10 ≡ s .args .decimals = omega arith in
-    let b : fits (replicate (s .args .decimals) 48) (take (s .args .decimals) (drop 10 (s .args .part .now))) ≡ true =
-    sym (c .before .before .fits3 .ensures ∙ ap₂ (λ z n. fits z (take n (drop 10 (s .args .part .now)))) (some-zeros (s .args .decimals) 6 (s .pre .0)) n) ∙ not-false _ (c .before .if2 .left) in
-    sym (t ∙ rw (a, b))
+    let a = sym (c .before .before .before .before .before .before .before .fits2 .ensures) ∙ not-false _ (c .before .before .before .before .before .before .if1 .left) in
+    let b = sym (c .before .before .before .fits3 .ensures ∙ decimals-part (s .args .decimals) 6 (s .args .part .now) (s .pre .0)) ∙ not-false _ (c .before .before .if2 .left) in
+    c .fits-one .ensures ∙ sym (t ∙ rw (a, b))
 
 pub is-time-spec : {M : Type 1} → statement M
 is-time-spec =
@@ -89,5 +83,6 @@ is-time-spec =
     part-fits-end
     fits-requires-2
     returns-2
-    shared-slice-read-result
+    shared-slice-read-fits-one
+    fits-one-requires
     returns-3)

@@ -3,10 +3,6 @@ use borrow.Author.Tests.{not-true, not-false}
 use borrow.Author.Needs.{needs}
 use Rattle.labels.proofs.rfc3339.read_time.Statement.{statement}
 use Rattle.labels.proofs.rfc3339.read_time.Tie as tie
-use Rattle.labels.proofs.rfc3339.read_time.Reads as reads
-use Rattle.labels.proofs.rfc3339.read_time.Lts as lts
-use Rattle.labels.proofs.digits.field.Reads as field-reads
-use Rattle.labels.proofs.rfc3339.is_time.Reads as is-time-reads
 
 is-time-requires : tie.Need-is-time-requires
 is-time-requires c κs = search needs

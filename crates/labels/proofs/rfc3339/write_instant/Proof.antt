@@ -1,3 +1,4 @@
+-- The fields of an instant in the range have room in the label.
 use mathlib.Core.Path.{sym, ap, _∙_}
 use mir.Facts.{toZ-ofZ}
 use Rattle.refusal.specs.Outcome.{value}
@@ -8,11 +9,6 @@ use Rattle.labels.proofs.Instants.{fields-narrow}
 use borrow.Author.Needs.{needs}
 use Rattle.labels.proofs.rfc3339.write_instant.Statement.{statement}
 use Rattle.labels.proofs.rfc3339.write_instant.Tie as tie
-use Rattle.labels.proofs.rfc3339.write_instant.Reads as reads
-use Rattle.labels.proofs.rfc3339.write_instant.Lts as lts
-use Rattle.instant.proofs.split_instant.Reads as split-instant-reads
-use Rattle.labels.proofs.buffer.put.Reads as put-reads
-use Rattle.labels.proofs.rfc3339.text_of.Reads as text-of-reads
 
 split-instant-requires : tie.Need-split-instant-requires
 split-instant-requires c κs = search needs
@@ -20,8 +16,8 @@ split-instant-requires c κs = search needs
 enum-known-fields : tie.Need-enum-known-fields
 enum-known-fields c = search needs
 
-text-of-requires : tie.Need-text-of-requires
-text-of-requires c κs =
+label-of-requires : tie.Need-label-of-requires
+label-of-requires c κs =
     let s = c .before .before .before .before .before in
     let g = c .before .fields .given in
     let e = ap fieldsOutcome (sym (g .1)) ∙ c .before .before .before .split-instant .ensures ∙ ap fieldsAnswer (toZ-ofZ (s .fits .ms)) in
@@ -45,7 +41,7 @@ returns c =
     let s = c .before .before .before .before .before .before .before .before .before .before .before in
     let g = c .before .before .before .before .before .before .before .fields .given in
     let e = ap fieldsOutcome (sym (g .1)) ∙ c .before .before .before .before .before .before .before .before .before .split-instant .ensures ∙ ap fieldsAnswer (toZ-ofZ (s .fits .ms)) in
-    renamed (s .args .out .now) (ap value (c .before .before .before .before .before .text-of .ensures) ∙ ap labelOf e) (c .before .before .put .ensures)
+    renamed (s .args .out .now) (ap value (c .before .before .before .before .before .label-of .ensures) ∙ ap labelOf e) (c .before .before .put .ensures)
 
 returns-2 : tie.Need-returns-2
 unfolding instantLabel
@@ -61,7 +57,7 @@ write-instant-spec =
     (tie.spec
     split-instant-requires
     enum-known-fields
-    text-of-requires
+    label-of-requires
     slice-aggregate-put
     put-requires
     enum-known-r

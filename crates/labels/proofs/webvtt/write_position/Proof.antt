@@ -1,20 +1,16 @@
+-- The widest text without its leading zeros is the label.
 use mathlib.Core.Path.{ap, _∙_}
 use native.Mathlib.Omega.{arith}
 use lib.IntN.{natAbs}
 use lib.ListN.{take, drop}
 use mir.Syntax.{w64}
-use Rattle.refusal.specs.Outcome.{value}
 use Rattle.numbers.proofs.Machine.{read, cast-pos}
-use Rattle.labels.proofs.Copy.{renamed, nothing-written}
+use Rattle.labels.proofs.Copy.{nothing-written}
 use Rattle.labels.proofs.Spelling.{two-hours, three-hours, four-hours, five-hours}
-use Rattle.labels.proofs.Positions.{in-range, below-range, above-range, labelled}
+use Rattle.labels.proofs.Positions.{in-range, below-range, above-range, label-written}
 use borrow.Author.Needs.{needs}
 use Rattle.labels.proofs.webvtt.write_position.Statement.{statement}
 use Rattle.labels.proofs.webvtt.write_position.Tie as tie
-use Rattle.labels.proofs.webvtt.write_position.Reads as reads
-use Rattle.labels.proofs.webvtt.write_position.Lts as lts
-use Rattle.labels.proofs.buffer.put.Reads as put-reads
-use Rattle.labels.proofs.webvtt.widest.Reads as widest-reads
 
 returns : tie.Need-returns
 returns c = nothing-written (c .before .before .args .out .now) (below-range (c .before .before .fits .ms) (c .if1 .taken))
@@ -52,10 +48,11 @@ same-length c = search needs
 returns-3 : tie.Need-returns-3
 returns-3 c =
     let s = c .before .before .before .before .before .before .before .before .before .before .before in
-    let n = natAbs (read (s .args .ms)) in
-    let r = in-range (read (s .args .ms)) (c .before .before .before .before .before .before .before .before .before .if1 .left) (c .before .before .before .before .before .before .before .before .if2 .left) in
-    renamed (s .args .out .now)
-    (ap value (ap (λ l. take 12 (drop 3 l)) (c .before .before .before .before .before .before .before .widest .ensures) ∙ two-hours n (r .1) (c .before .before .before .before .before .before .if3 .taken)) ∙ labelled (s .fits .ms) (c .before .before .before .before .before .before .before .before .before .if1 .left) (c .before .before .before .before .before .before .before .before .if2 .left))
+    let lo = c .before .before .before .before .before .before .before .before .before .if1 .left in
+    let hi = c .before .before .before .before .before .before .before .before .if2 .left in
+    let r = in-range (read (s .args .ms)) lo hi in
+    label-written (s .fits .ms) lo hi (s .args .out .now)
+    (ap (λ l. take 12 (drop 3 l)) (c .before .before .before .before .before .before .before .widest .ensures) ∙ two-hours (natAbs (read (s .args .ms))) (r .1) (c .before .before .before .before .before .before .if3 .taken))
     (c .before .before .put .ensures)
 
 sub-put-2 : tie.Need-sub-put-2
@@ -76,10 +73,11 @@ same-length-2 c = search needs
 returns-4 : tie.Need-returns-4
 returns-4 c =
     let s = c .before .before .before .before .before .before .before .before .before .before .before .before in
-    let n = natAbs (read (s .args .ms)) in
-    let r = in-range (read (s .args .ms)) (c .before .before .before .before .before .before .before .before .before .before .if1 .left) (c .before .before .before .before .before .before .before .before .before .if2 .left) in
-    renamed (s .args .out .now)
-    (ap value (ap (λ l. take 13 (drop 2 l)) (c .before .before .before .before .before .before .before .before .widest .ensures) ∙ three-hours n (r .1) (c .before .before .before .before .before .before .before .if3 .left) (c .before .before .before .before .before .before .if4 .taken)) ∙ labelled (s .fits .ms) (c .before .before .before .before .before .before .before .before .before .before .if1 .left) (c .before .before .before .before .before .before .before .before .before .if2 .left))
+    let lo = c .before .before .before .before .before .before .before .before .before .before .if1 .left in
+    let hi = c .before .before .before .before .before .before .before .before .before .if2 .left in
+    let r = in-range (read (s .args .ms)) lo hi in
+    label-written (s .fits .ms) lo hi (s .args .out .now)
+    (ap (λ l. take 13 (drop 2 l)) (c .before .before .before .before .before .before .before .before .widest .ensures) ∙ three-hours (natAbs (read (s .args .ms))) (r .1) (c .before .before .before .before .before .before .before .if3 .left) (c .before .before .before .before .before .before .if4 .taken))
     (c .before .before .put2 .ensures)
 
 sub-put-3 : tie.Need-sub-put-3
@@ -100,10 +98,11 @@ same-length-3 c = search needs
 returns-5 : tie.Need-returns-5
 returns-5 c =
     let s = c .before .before .before .before .before .before .before .before .before .before .before .before .before in
-    let n = natAbs (read (s .args .ms)) in
-    let r = in-range (read (s .args .ms)) (c .before .before .before .before .before .before .before .before .before .before .before .if1 .left) (c .before .before .before .before .before .before .before .before .before .before .if2 .left) in
-    renamed (s .args .out .now)
-    (ap value (ap (λ l. take 14 (drop 1 l)) (c .before .before .before .before .before .before .before .before .before .widest .ensures) ∙ four-hours n (r .1) (c .before .before .before .before .before .before .before .before .if3 .left) (c .before .before .before .before .before .before .before .if4 .left) (c .before .before .before .before .before .before .if5 .taken)) ∙ labelled (s .fits .ms) (c .before .before .before .before .before .before .before .before .before .before .before .if1 .left) (c .before .before .before .before .before .before .before .before .before .before .if2 .left))
+    let lo = c .before .before .before .before .before .before .before .before .before .before .before .if1 .left in
+    let hi = c .before .before .before .before .before .before .before .before .before .before .if2 .left in
+    let r = in-range (read (s .args .ms)) lo hi in
+    label-written (s .fits .ms) lo hi (s .args .out .now)
+    (ap (λ l. take 14 (drop 1 l)) (c .before .before .before .before .before .before .before .before .before .widest .ensures) ∙ four-hours (natAbs (read (s .args .ms))) (r .1) (c .before .before .before .before .before .before .before .before .if3 .left) (c .before .before .before .before .before .before .before .if4 .left) (c .before .before .before .before .before .before .if5 .taken))
     (c .before .before .put3 .ensures)
 
 slice-aggregate-put : tie.Need-slice-aggregate-put
@@ -118,10 +117,11 @@ same-length-4 c = search needs
 returns-6 : tie.Need-returns-6
 returns-6 c =
     let s = c .before .before .before .before .before .before .before .before .before .before .before .before in
-    let n = natAbs (read (s .args .ms)) in
-    let r = in-range (read (s .args .ms)) (c .before .before .before .before .before .before .before .before .before .before .if1 .left) (c .before .before .before .before .before .before .before .before .before .if2 .left) in
-    renamed (s .args .out .now)
-    (ap value (ap (λ l. l) (c .before .before .before .before .before .before .before .before .widest .ensures) ∙ five-hours n (r .1) (c .before .before .before .before .before .before .before .if3 .left) (c .before .before .before .before .before .before .if4 .left) (c .before .before .before .before .before .if5 .left)) ∙ labelled (s .fits .ms) (c .before .before .before .before .before .before .before .before .before .before .if1 .left) (c .before .before .before .before .before .before .before .before .before .if2 .left))
+    let lo = c .before .before .before .before .before .before .before .before .before .before .if1 .left in
+    let hi = c .before .before .before .before .before .before .before .before .before .if2 .left in
+    let r = in-range (read (s .args .ms)) lo hi in
+    label-written (s .fits .ms) lo hi (s .args .out .now)
+    (c .before .before .before .before .before .before .before .before .widest .ensures ∙ five-hours (natAbs (read (s .args .ms))) (r .1) (c .before .before .before .before .before .before .before .if3 .left) (c .before .before .before .before .before .before .if4 .left) (c .before .before .before .before .before .if5 .left))
     (c .before .before .put4 .ensures)
 
 pub write-position-spec : {M : Type 1} → statement M

@@ -1,11 +1,9 @@
+-- The fields are natural numbers that the label has room for.
 use lib.Dec.{lit<}
 use mathlib.Core.Path.{_∙_}
 use Rattle.labels.proofs.Instants.{cast-field, narrow-read, spelled-label}
-use Rattle.labels.proofs.rfc3339.text_of.Statement.{statement}
-use Rattle.labels.proofs.rfc3339.text_of.Tie as tie
-use Rattle.labels.proofs.rfc3339.text_of.Reads as reads
-use Rattle.labels.proofs.rfc3339.text_of.Lts as lts
-use Rattle.labels.proofs.rfc3339.spelled.Reads as spelled-reads
+use Rattle.labels.proofs.rfc3339.label_of.Statement.{statement}
+use Rattle.labels.proofs.rfc3339.label_of.Tie as tie
 
 cast-spelled : tie.Need-cast-spelled
 cast-spelled c = let s = c .before .before in cast-field 9999 (lit< tt) (s .args .f .year) (s .pre .year-within)
@@ -34,8 +32,8 @@ spelled-requires c κs = let s = c .before .before .before .before .before .befo
 returns : tie.Need-returns
 returns c = let s = c .before .before .before .before .before .before .before .before .before .before .before .before .before .before .before in c .spelled .ensures ∙ spelled-label (s .args .f) (s .pre)
 
-pub text-of-spec : {M : Type 1} → statement M
-text-of-spec =
+pub label-of-spec : {M : Type 1} → statement M
+label-of-spec =
     tie.close
     (tie.spec
     cast-spelled
