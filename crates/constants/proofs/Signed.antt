@@ -4,7 +4,7 @@ use mathlib.Core.Bool.{Bool, true, false, _||_}
 use lib.IntN.{ℤ, pos, natAbs}
 use Rattle.numbers.specs.Range.{outside}
 use Rattle.numbers.proofs.Integers.{no-both}
-use Rattle.numbers.proofs.Naturals.{Natural, natural}
+use Rattle.numbers.proofs.Between.{Within, within}
 use Rattle.constants.specs.Limits.{outsideLimits}
 use Rattle.constants.specs.Allowed.{Passed, constantsOf}
 
@@ -13,14 +13,14 @@ neither true y h = no-both true refl h
 neither false y h = (refl, h)
 
 pub record Naturals (a b d m c k t end last : ℤ) : Type 0 where
-  pub a-is : Natural 1 1023 a
-  pub b-is : Natural 0 1023 b
-  pub d-is : Natural 1 1048575 d
-  pub m-is : Natural 0 4294967295 m
-  pub c-is : Natural 0 4294967295 c
-  pub k-is : Natural 0 47 k
-  pub t-is : Natural 0 255 t
-  pub end-is : Natural 0 (natAbs last) end
+  pub a-is : Within 1 1023 a
+  pub b-is : Within 0 1023 b
+  pub d-is : Within 1 1048575 d
+  pub m-is : Within 0 4294967295 m
+  pub c-is : Within 0 4294967295 c
+  pub k-is : Within 0 47 k
+  pub t-is : Within 0 255 t
+  pub end-is : Within 0 (natAbs last) end
 
 module _ (a b d m c k t end last : ℤ) (h : (outsideLimits a b d m c k t || outside (pos 0) last end) ≡ false) where
   pub naturals : Naturals a b d m c k t end last
@@ -34,14 +34,14 @@ module _ (a b d m c k t end last : ℤ) (h : (outsideLimits a b d m c k t || out
       let o2 = neither _ _ (o3 .0) in
       let o1 = neither _ _ (o2 .0) in
       record {
-        a-is = natural 1 (pos 1023) a (o1 .0);
-        b-is = natural 0 (pos 1023) b (o1 .1);
-        d-is = natural 1 (pos 1048575) d (o2 .1);
-        m-is = natural 0 (pos 4294967295) m (o3 .1);
-        c-is = natural 0 (pos 4294967295) c (o4 .1);
-        k-is = natural 0 (pos 47) k (o5 .1);
-        t-is = natural 0 (pos 255) t (o6 .1);
-        end-is = natural 0 last end (o7 .1);
+        a-is = within 1 (pos 1023) a (o1 .0);
+        b-is = within 0 (pos 1023) b (o1 .1);
+        d-is = within 1 (pos 1048575) d (o2 .1);
+        m-is = within 0 (pos 4294967295) m (o3 .1);
+        c-is = within 0 (pos 4294967295) c (o4 .1);
+        k-is = within 0 (pos 47) k (o5 .1);
+        t-is = within 0 (pos 255) t (o6 .1);
+        end-is = within 0 last end (o7 .1);
       }
 
   pub all-passed : Passed a b d m c k t end last (constantsOf a b d m c k t) (natAbs end)

@@ -2,7 +2,7 @@
 // of a difference, the device's quotient above the exact one or below it, sets in as soon as j periods close the gap of r.
 
 ghost use mathlib.Core.Path.{_≡_};
-ghost use Prim.Native.Nat.{ℕ, _*_, _^_, _<_, _≤_, min};
+ghost use Prim.Native.Nat.{_*_, _^_, _<_, _≤_, min};
 ghost use Rattle.constants.specs.Allowed.{Allowed};
 ghost use Rattle.constants.specs.Stairs.{Decides};
 ghost use Rattle.constants.specs.Residues.{Differs, IsLeast, gap, SomeGap, SideOf, Sides, Reached, Small, FirstReached, Later};

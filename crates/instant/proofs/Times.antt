@@ -14,10 +14,10 @@ use Rattle.instant.specs.Answers.{badTime}
 
 -- the fields of a time of day in natural numbers
 pub record Time (hour minute second fraction : ℤ) : Type 0 where
-  pub hour-within : Within 23 hour
-  pub minute-within : Within 59 minute
-  pub second-within : Within 59 second
-  pub fraction-within : Within (perSecond - 1) fraction
+  pub hour-within : Within 0 23 hour
+  pub minute-within : Within 0 59 minute
+  pub second-within : Within 0 59 second
+  pub fraction-within : Within 0 (perSecond - 1) fraction
 
 or-no : (a b : Bool) → (a || b) ≡ false → (a ≡ false) × (b ≡ false)
 or-no true b h = no-both true refl h
@@ -30,10 +30,10 @@ module _ (hour minute second fraction : ℤ) where
       let b = or-no (outside (pos 0) (pos 59) minute) _ (a .1) in
       let c = or-no (outside (pos 0) (pos 59) second) _ (b .1) in
       record {
-        hour-within = within 23 hour (a .0);
-        minute-within = within 59 minute (b .0);
-        second-within = within 59 second (c .0);
-        fraction-within = within (perSecond - 1) fraction (c .1);
+        hour-within = within 0 (pos 23) hour (a .0);
+        minute-within = within 0 (pos 59) minute (b .0);
+        second-within = within 0 (pos 59) second (c .0);
+        fraction-within = within 0 (pos (perSecond - 1)) fraction (c .1);
       }
 
   -- the time of day
@@ -47,16 +47,16 @@ module _ (hour minute second fraction : ℤ) where
 
     pub time-small : timeℕ < perDay
     unfolding timeℕ
-    time-small = omega (arith, t .hour-within .small, t .minute-within .small, t .second-within .small, t .fraction-within .small)
+    time-small = omega (arith, t .hour-within .high, t .minute-within .high, t .second-within .high, t .fraction-within .high)
 
     -- it has these fields
     pub fields-back : (d : Date) → fieldsAt d timeℕ ≡ fields (d .year) (d .month) (d .day) hour minute second fraction
     unfolding fieldsAt timeℕ
     fields-back d =
-        let h = t .hour-within .small in
-        let m = t .minute-within .small in
-        let s = t .second-within .small in
-        let l = t .fraction-within .small in
+        let h = t .hour-within .high in
+        let m = t .minute-within .high in
+        let s = t .second-within .high in
+        let l = t .fraction-within .high in
         let p : pos (timeℕ / perHour) ≡ hour = ap pos (omega arith) ∙ sym (t .hour-within .is) in
         let q : pos (timeℕ % perHour / perMinute) ≡ minute = ap pos (omega arith) ∙ sym (t .minute-within .is) in
         let r : pos (timeℕ % perMinute / perSecond) ≡ second = ap pos (omega arith) ∙ sym (t .second-within .is) in

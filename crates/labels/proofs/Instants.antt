@@ -34,8 +34,8 @@ pub as-signed : {n : ℕ} → Fits w32 n → toZ w64 n ≡ pos n
 as-signed h = toZ-pos w64 (omega (arith, h .fits))
 
 -- fields that make an instant
-wider : {k : ℕ} (l : ℕ) {z : ℤ} → Within k z → k ≤ l → outside (pos 0) (pos l) z ≡ false
-wider l {z} w h = let s = w .small in ap (outside (pos 0) (pos l)) (w .is) ∙ inside-pos 0 l (natAbs z) (omega arith) (omega arith)
+wider : {k : ℕ} (l : ℕ) {z : ℤ} → Within 0 k z → k ≤ l → outside (pos 0) (pos l) z ≡ false
+wider l {z} w h = let s = w .high in ap (outside (pos 0) (pos l)) (w .is) ∙ inside-pos 0 l (natAbs z) (omega arith) (omega arith)
 
 pub joined-narrow : (year month day hour minute second millisecond ms : ℤ) → joinAnswer year month day hour minute second millisecond ≡ value ms → NarrowFields (record { year = year; month = month; day = day; hour = hour; minute = minute; second = second; millisecond = millisecond })
 unfolding daysAnswer
@@ -60,16 +60,16 @@ fields-narrow ms f e = joined-narrow (f .year) (f .month) (f .day) (f .hour) (f 
 -- a field in 0..k as an unsigned number
 module _ (k : ℕ) (h : k < 2 ^ 32) (z : ℤ) (e : outside (pos 0) (pos k) z ≡ false) where
   fits : SFits w64 z
-  fits = let w = within k z e in let l = w .small in subst (λ z. SFits w64 z) (sym (w .is)) (pos-fits (omega arith))
+  fits = let w = within 0 (pos k) z e in let l = w .high in subst (λ z. SFits w64 z) (sym (w .is)) (pos-fits (omega arith))
 
   pub abs-read : natAbs (read z) ≡ natAbs z
   abs-read = ap natAbs (toZ-ofZ fits)
 
   pub cast-field : T (nonNeg (read z)) × Fits w32 (natAbs (read z))
-  cast-field = let w = within k z e in let l = w .small in cast-pos w32 (natAbs z) (omega arith) (toZ-ofZ fits ∙ w .is)
+  cast-field = let w = within 0 (pos k) z e in let l = w .high in cast-pos w32 (natAbs z) (omega arith) (toZ-ofZ fits ∙ w .is)
 
   pub read-below : natAbs (read z) < k + 1
-  read-below = let w = within k z e in let l = w .small in omega (arith, abs-read)
+  read-below = let w = within 0 (pos k) z e in let l = w .high in omega (arith, abs-read)
 
 module _ (f : Fields) (n : NarrowFields f) where
   pub narrow-read :

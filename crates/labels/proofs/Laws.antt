@@ -119,8 +119,8 @@ same-position z y label e f = position-read z label e ∙ sym (position-read y l
 -- the number of a field's digits is the field
 field-back : (k count : ℕ) → k < 10 ^ count → (z : ℤ) → outside (pos 0) (pos k) z ≡ false → pos (number (digits (natAbs z) count)) ≡ z
 field-back k count h z e =
-    let w = within k z e in
-    let l = w .small in
+    let w = within 0 (pos k) z e in
+    let l = w .high in
     ap pos (number-digits (natAbs z) count (omega arith)) ∙ sym (w .is)
 
 fields-back :

@@ -1,7 +1,7 @@
 -- What a range test that code has made says of the number.
-use Prim.Native.Nat.{ℕ, _≤_, _<_, _^_}
-use mathlib.Core.Path.{_≡_, refl, sym, ap, _∙_, subst}
-use mathlib.Core.Bool.{Bool, true, false}
+use Prim.Native.Nat.{ℕ, _≤_}
+use mathlib.Core.Path.{_≡_, refl, sym, _∙_, subst}
+use mathlib.Core.Bool.{true, false}
 use native.Mathlib.Omega.{arith}
 use lib.IntN.{ℤ, pos, negsuc, natAbs, _+ℤ_}
 use lib.Dec.{T}
@@ -14,10 +14,6 @@ use Rattle.numbers.specs.Range.{outside}
 use Rattle.numbers.proofs.Integers.{no-both, outside-no, not-outside, lt-add}
 use Rattle.numbers.proofs.Machine.{read, cast-pos}
 
--- the answer r of a test of a local, and what it was
-pub tested : (first last : ℤ) {z : ℤ} {r t : Bool} → SFits w64 z → r ≡ outside first last (read z) → r ≡ t → outside first last z ≡ t
-tested first last f e h = ap (outside first last) (sym (toZ-ofZ f)) ∙ sym e ∙ h
-
 -- a number between two that fit
 pub fits-between : (w : Width) (first last z : ℤ) → SFits w first → SFits w last → outside first last z ≡ false → SFits w z
 fits-between w first last z f g h = go first last z f g (outside-no first last z h .0) (outside-no first last z h .1)
@@ -28,21 +24,27 @@ fits-between w first last z f g h = go first last z f g (outside-no first last z
     go (pos b) last (negsuc a) f g lo hi = no-both true refl lo
     go (negsuc b) last (negsuc a) f g lo hi = record { sfits = omega (arith, f .sfits, ltb-false b a lo) }
 
--- a number in 0..k
-pub record Within (k : ℕ) (z : ℤ) : Type 0 where
+-- a natural number in first..last
+pub record Within (first last : ℕ) (z : ℤ) : Type 0 where
   pub is : z ≡ pos (natAbs z)
-  pub small : natAbs z ≤ k
+  pub low : first ≤ natAbs z
+  pub high : natAbs z ≤ last
 
-pub within : (k : ℕ) (z : ℤ) → outside (pos 0) (pos k) z ≡ false → Within k z
-within k (pos a) h = record { is = refl; small = ltb-false k a (outside-no (pos 0) (pos k) (pos a) h .1) }
-within k (negsuc a) h = no-both true refl (outside-no (pos 0) (pos k) (negsuc a) h .0)
+pub within : (first : ℕ) (last z : ℤ) → outside (pos first) last z ≡ false → Within first (natAbs last) z
+within first (pos last) (pos n) h =
+    let t = outside-no (pos first) (pos last) (pos n) h in
+    record { is = refl; low = ltb-false n first (t .0); high = ltb-false last n (t .1) }
+within first (negsuc last) (pos n) h = no-both true refl (outside-no (pos first) (negsuc last) (pos n) h .1)
+within first last (negsuc n) h = no-both true refl h
 
-module _ {k : ℕ} {z : ℤ} (f : SFits w64 z) (t : Within k z) where
-  pub read-small : natAbs (read z) ≤ k
-  read-small = subst (λ (y : ℤ). natAbs y ≤ k) (sym (toZ-ofZ f)) (t .small)
+module _ {first last : ℕ} {z : ℤ} (f : SFits w64 z) (t : Within first last z) where
+  pub read-high : natAbs (read z) ≤ last
+  read-high = subst (λ (y : ℤ). natAbs y ≤ last) (sym (toZ-ofZ f)) (t .high)
 
-  pub cast-within : k < 2 ^ 64 → T (nonNeg (read z)) × Fits w64 (natAbs (read z))
-  cast-within h = let l = t .small in cast-pos w64 (natAbs z) (omega arith) (toZ-ofZ f ∙ t .is)
+  pub cast-within : T (nonNeg (read z)) × Fits w64 (natAbs (read z))
+  cast-within =
+      let l = subst (SFits w64) (t .is) f .sfits in
+      cast-pos w64 (natAbs z) (omega arith) (toZ-ofZ f ∙ t .is)
 
 -- numbers that lie in a range, as natural numbers and from any first number on
 pub inside-pos : (a b n : ℕ) → a ≤ n → n ≤ b → outside (pos a) (pos b) (pos n) ≡ false

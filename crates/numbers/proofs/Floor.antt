@@ -12,7 +12,7 @@ remainder-below (pos a) d h = mod-lt a h
 remainder-below (negsuc a) d h = omega arith
 
 -- -n + r, where r is less
-neg-add : (n r : ℕ) → r < n → negℤ (pos n) +ℤ pos r ≡ negsuc (n - suc r)
+pub neg-add : (n r : ℕ) → r < n → negℤ (pos n) +ℤ pos r ≡ negsuc (n - suc r)
 neg-add zero r h = absurd (omega arith)
 neg-add (suc n) r h = sub-neg r (suc n) h
 

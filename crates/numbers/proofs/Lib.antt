@@ -1,7 +1,6 @@
 pub mod Integers
 pub mod Floor
 pub mod Machine
-pub mod Naturals
 pub mod Mended
 pub mod Quotients
 pub mod Between

@@ -4,11 +4,12 @@ use mathlib.Core.Path.{_≡_, refl, sym, ap, _∙_}
 use mathlib.Core.Bool.{false, true}
 use native.Mathlib.Nat.{div-mul-le-self, div-eq-of-lt-le, mod-eq-of-lt, mul-add-mod-self-right, le-div-iff-mul-le}
 use native.Mathlib.Omega.{arith}
-use lib.IntN.{ℤ, pos, negsuc, negℤ, _+ℤ_, _*ℤ_, +ℤ-idr, +ℤ-assoc, +ℤ-sucℤ, sucℤ-*ℤ}
+use lib.IntN.{ℤ, pos, negsuc, _+ℤ_, _*ℤ_, +ℤ-idr, +ℤ-assoc, +ℤ-sucℤ, sucℤ-*ℤ}
 use lib.Signed.{ltZ}
 use borrow.Author.Tests.{ltb-false, le-ltb}
 use Rattle.numbers.specs.Floor.{floorQuotient, floorRemainder}
-use Rattle.numbers.proofs.Integers.{no-both, sub-neg}
+use Rattle.numbers.proofs.Floor.{neg-add}
+use Rattle.numbers.proofs.Integers.{no-both}
 
 div-monotone : (a b d : ℕ) → 0 < d → a ≤ b → a / d ≤ b / d
 div-monotone a b d h l = le-div-iff-mul-le h .1 (omega (arith, div-mul-le-self a d))
@@ -19,11 +20,6 @@ quotient-monotone (pos a) (pos b) d h l = le-ltb (b / d) (a / d) (div-monotone a
 quotient-monotone (pos a) (negsuc b) d h l = no-both true refl l
 quotient-monotone (negsuc a) (pos b) d h l = refl
 quotient-monotone (negsuc a) (negsuc b) d h l = le-ltb (a / d) (b / d) (div-monotone b a d h (ltb-false a b l))
-
--- -n + r, where r is less
-neg-add : (n r : ℕ) → r < n → negℤ (pos n) +ℤ pos r ≡ negsuc (n - suc r)
-neg-add zero r h = absurd (omega arith)
-neg-add (suc n) r h = sub-neg r (suc n) h
 
 module _ (d r : ℕ) (h : r < d) where
   -- a multiple of d, less r + 1

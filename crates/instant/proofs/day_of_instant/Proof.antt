@@ -1,7 +1,7 @@
 use Rattle.instant.specs.Answers.{dayAnswer}
 use Rattle.instant.specs.Instant.{dayOf}
 use Rattle.instant.specs.Units.{firstInstant, lastInstant}
-use Rattle.numbers.proofs.Between.{tested}
+use Rattle.numbers.proofs.Machine.{answered}
 use Rattle.refusal.specs.Outcome.{value}
 use mir.Facts.{toZ-ofZ}
 use mir.Val.{SFits}
@@ -16,7 +16,7 @@ outside-requires c κs = search needs
 
 returns : tie.Need-returns
 unfolding dayAnswer
-returns c = rw (tested firstInstant lastInstant (c .before .before .fits .ms) (c .before .outside .ensures) (c .if1 .taken))
+returns c = rw (answered firstInstant lastInstant (c .before .before .fits .ms) (c .before .outside .ensures) (c .if1 .taken))
 
 day-requires : tie.Need-day-requires
 day-requires c κs = search needs
@@ -25,7 +25,7 @@ returns-2 : tie.Need-returns-2
 unfolding dayAnswer
 returns-2 c = let s = c .before .before .before in
     let g : SFits w64 (c .day .result) = search needs in
-    rw (tested firstInstant lastInstant (s .fits .ms) (c .before .before .outside .ensures) (c .before .if1 .left))
+    rw (answered firstInstant lastInstant (s .fits .ms) (c .before .before .outside .ensures) (c .before .if1 .left))
     (ap value (toZ-ofZ g ∙ c .day .ensures ∙ ap dayOf (toZ-ofZ (s .fits .ms))))
 
 pub day-of-instant-spec : {M : Type 1} → statement M

@@ -5,7 +5,7 @@ use Rattle.instant.specs.Instant.{dayOf, timeOf, fieldsAt, fieldsOf}
 use Rattle.instant.specs.Units.{perDay, firstInstant, lastInstant}
 use Rattle.calendar.specs.Answers.{dateOutcome, civilAnswer}
 use Rattle.calendar.specs.Count.{dateOfCount}
-use Rattle.numbers.proofs.Between.{tested}
+use Rattle.numbers.proofs.Machine.{answered}
 use Rattle.numbers.proofs.Machine.{read, cast-pos}
 use Rattle.refusal.specs.Outcome.{value}
 use mir.Facts.{toZ-ofZ}
@@ -25,7 +25,7 @@ outside-requires c κs = search needs
 
 returns : tie.Need-returns
 unfolding fieldsAnswer
-returns c = rw (tested firstInstant lastInstant (c .before .before .fits .ms) (c .before .outside .ensures) (c .if1 .taken))
+returns c = rw (answered firstInstant lastInstant (c .before .before .fits .ms) (c .before .outside .ensures) (c .if1 .taken))
 
 day-requires : tie.Need-day-requires
 day-requires c κs = search needs
@@ -35,7 +35,7 @@ civil-from-days-requires c κs = search needs
 
 -- the instant is in the range, and the calendar answers the date of its day
 inside : (c : tie.After-day) → badInstant (c .before .before .before .args .ms) ≡ false
-inside c = tested firstInstant lastInstant (c .before .before .before .fits .ms) (c .before .before .outside .ensures) (c .before .if1 .left)
+inside c = answered firstInstant lastInstant (c .before .before .before .fits .ms) (c .before .before .outside .ensures) (c .before .if1 .left)
 
 date-is : (c : tie.After-civil-from-days) → dateOutcome (c .civil-from-days .result) ≡ value (dateOfCount (dayOf (c .before .before .before .before .args .ms)))
 date-is c = let s = c .before .before .before .before in

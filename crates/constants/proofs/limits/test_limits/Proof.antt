@@ -5,7 +5,7 @@ use borrow.Author.Needs.{needs}
 use lib.IntN.{pos}
 use mir.Facts.{toZ-ofZ}
 use Rattle.numbers.specs.Range.{outside}
-use Rattle.numbers.proofs.Naturals.{natural-cast}
+use Rattle.numbers.proofs.Between.{cast-within}
 use Rattle.constants.specs.Limits.{outsideLimits}
 use Rattle.constants.proofs.Signed.{Naturals, naturals, all-passed}
 use Rattle.constants.proofs.limits.test_limits.Statement.{statement}
@@ -66,28 +66,28 @@ module _ (c : tie.Else1) where
   known = naturals _ _ _ _ _ _ _ _ _ passed
 
 cast-t26 : tie.Need-cast-t26
-cast-t26 c = natural-cast (start c .fits .a) (known c .a-is)
+cast-t26 c = cast-within (start c .fits .a) (known c .a-is)
 
 cast-t27 : tie.Need-cast-t27
-cast-t27 c = natural-cast (start c .fits .b) (known c .b-is)
+cast-t27 c = cast-within (start c .fits .b) (known c .b-is)
 
 cast-t28 : tie.Need-cast-t28
-cast-t28 c = natural-cast (start c .fits .d) (known c .d-is)
+cast-t28 c = cast-within (start c .fits .d) (known c .d-is)
 
 cast-t29 : tie.Need-cast-t29
-cast-t29 c = natural-cast (start c .fits .m) (known c .m-is)
+cast-t29 c = cast-within (start c .fits .m) (known c .m-is)
 
 cast-t30 : tie.Need-cast-t30
-cast-t30 c = natural-cast (start c .fits .c) (known c .c-is)
+cast-t30 c = cast-within (start c .fits .c) (known c .c-is)
 
 cast-t31 : tie.Need-cast-t31
-cast-t31 c = natural-cast (start c .fits .k) (known c .k-is)
+cast-t31 c = cast-within (start c .fits .k) (known c .k-is)
 
 cast-t32 : tie.Need-cast-t32
-cast-t32 c = natural-cast (start c .fits .t) (known c .t-is)
+cast-t32 c = cast-within (start c .fits .t) (known c .t-is)
 
 cast-t26-2 : tie.Need-cast-t26-2
-cast-t26-2 c = natural-cast (start c .fits .end) (known c .end-is)
+cast-t26-2 c = cast-within (start c .fits .end) (known c .end-is)
 
 returns-2 : tie.Need-returns-2
 returns-2 c =

@@ -2,7 +2,7 @@
 use Rattle.instant.specs.Answers.{firstBad}
 use Rattle.instant.specs.Units.{firstInstant, lastInstant}
 use Rattle.instant.proofs.Lists.{bad-end, bad-here, bad-later}
-use Rattle.numbers.proofs.Between.{tested}
+use Rattle.numbers.proofs.Machine.{answered}
 use mir.Val.{SFits}
 use mir.Syntax.{w64}
 use lib.IntN.{pos}
@@ -36,7 +36,7 @@ returns : tie.Need-returns Inv-loop μ-loop
 returns c = let l = c .before .before .before .before .loop in
     let s = c .before .before .before .before .before .args .instants .now in
     let f : SFits w64 (getD s (l .i) (pos 0)) = search needs in
-    let e = bad-here s (l .i) (omega arith) (tested firstInstant lastInstant f (c .before .outside .ensures) (c .if1 .taken)) in
+    let e = bad-here s (l .i) (omega arith) (answered firstInstant lastInstant f (c .before .outside .ensures) (c .if1 .taken)) in
     omega (arith, l .inv .1)
 
 add-i : tie.Need-add-i Inv-loop μ-loop
@@ -49,7 +49,7 @@ loop-again : tie.Need-loop-again Inv-loop μ-loop
 loop-again c = let l = c .before .before .before .before .loop in
     let s = c .before .before .before .before .before .args .instants .now in
     let f : SFits w64 (getD s (l .i) (pos 0)) = search needs in
-    let e = bad-later s (l .i) (omega arith) (tested firstInstant lastInstant f (c .before .outside .ensures) (c .if1 .left)) in
+    let e = bad-later s (l .i) (omega arith) (answered firstInstant lastInstant f (c .before .outside .ensures) (c .if1 .left)) in
     (omega arith, omega (arith, l .inv .1))
 
 returns-2 : tie.Need-returns-2 Inv-loop μ-loop

@@ -4,11 +4,11 @@ use Rattle.instant.specs.Answers.{badTime}
 use Rattle.instant.specs.Checked.{timeAnswer}
 use Rattle.instant.specs.Units.{perSecond, perMinute, perHour}
 use Rattle.numbers.specs.Range.{outside}
-use Rattle.numbers.proofs.Between.{tested, read-small, cast-within}
+use Rattle.numbers.proofs.Between.{read-high, cast-within}
+use Rattle.numbers.proofs.Machine.{answered}
 use Rattle.refusal.specs.Outcome.{value}
 use mir.Facts.{toZ-ofZ, toZ-pos}
 use mir.Syntax.{w64}
-use lib.Dec.{lit<}
 use lib.IntN.{pos, natAbs}
 use Prim.Native.Nat.{_+_, _-_, _*_}
 use native.Mathlib.Omega.{arith}
@@ -20,20 +20,20 @@ use Rattle.instant.proofs.time_of_day.check_time.Tie as tie
 
 -- what the tests have shown, one after the other
 hour-inside : (c : tie.Else1) → outside (pos 0) (pos 23) (c .before .before .args .hour) ≡ false
-hour-inside c = tested (pos 0) (pos 23) (c .before .before .fits .hour) (c .before .outside .ensures) (c .if1 .left)
+hour-inside c = answered (pos 0) (pos 23) (c .before .before .fits .hour) (c .before .outside .ensures) (c .if1 .left)
 
 minute-inside : (c : tie.Else2) → outside (pos 0) (pos 59) (c .before .before .before .before .args .minute) ≡ false
-minute-inside c = tested (pos 0) (pos 59) (c .before .before .before .before .fits .minute) (c .before .outside2 .ensures) (c .if2 .left)
+minute-inside c = answered (pos 0) (pos 59) (c .before .before .before .before .fits .minute) (c .before .outside2 .ensures) (c .if2 .left)
 
 second-inside : (c : tie.Else3) → outside (pos 0) (pos 59) (c .before .before .before .before .before .before .args .second) ≡ false
-second-inside c = tested (pos 0) (pos 59) (c .before .before .before .before .before .before .fits .second) (c .before .outside3 .ensures) (c .if3 .left)
+second-inside c = answered (pos 0) (pos 59) (c .before .before .before .before .before .before .fits .second) (c .before .outside3 .ensures) (c .if3 .left)
 
 outside-requires : tie.Need-outside-requires
 outside-requires c κs = search needs
 
 returns : tie.Need-returns
 unfolding timeAnswer
-returns c = rw (tested (pos 0) (pos 23) (c .before .before .fits .hour) (c .before .outside .ensures) (c .if1 .taken))
+returns c = rw (answered (pos 0) (pos 23) (c .before .before .fits .hour) (c .before .outside .ensures) (c .if1 .taken))
 
 outside-requires-2 : tie.Need-outside-requires-2
 outside-requires-2 c κs = search needs
@@ -41,7 +41,7 @@ outside-requires-2 c κs = search needs
 returns-2 : tie.Need-returns-2
 unfolding timeAnswer
 returns-2 c = let a = c .before .before in
-    rw (hour-inside a, tested (pos 0) (pos 59) (a .before .before .fits .minute) (c .before .outside2 .ensures) (c .if2 .taken))
+    rw (hour-inside a, answered (pos 0) (pos 59) (a .before .before .fits .minute) (c .before .outside2 .ensures) (c .if2 .taken))
 
 outside-requires-3 : tie.Need-outside-requires-3
 outside-requires-3 c κs = search needs
@@ -50,7 +50,7 @@ returns-3 : tie.Need-returns-3
 unfolding timeAnswer
 returns-3 c = let b = c .before .before in
     let a = b .before .before in
-    rw (hour-inside a, minute-inside b, tested (pos 0) (pos 59) (a .before .before .fits .second) (c .before .outside3 .ensures) (c .if3 .taken))
+    rw (hour-inside a, minute-inside b, answered (pos 0) (pos 59) (a .before .before .fits .second) (c .before .outside3 .ensures) (c .if3 .taken))
 
 cast-outside : tie.Need-cast-outside
 cast-outside c = search needs
@@ -66,7 +66,7 @@ unfolding timeAnswer
 returns-4 c = let d = c .before .before in
     let b = d .before .before in
     let a = b .before .before in
-    rw (hour-inside a, minute-inside b, second-inside d, tested (pos 0) (pos (perSecond - 1)) (a .before .before .fits .millisecond) (c .before .outside4 .ensures) (c .if4 .taken))
+    rw (hour-inside a, minute-inside b, second-inside d, answered (pos 0) (pos (perSecond - 1)) (a .before .before .fits .millisecond) (c .before .outside4 .ensures) (c .if4 .taken))
 
 -- all tests are passed
 abbrev start : tie.Else4 → tie.Start
@@ -76,27 +76,27 @@ inside : (c : tie.Else4) → badTime (start c .args .hour) (start c .args .minut
 inside c = let d = c .before .before in
     let b = d .before .before in
     let a = b .before .before in
-    rw (hour-inside a, minute-inside b, second-inside d, tested (pos 0) (pos (perSecond - 1)) (start c .fits .millisecond) (c .before .outside4 .ensures) (c .if4 .left))
+    rw (hour-inside a, minute-inside b, second-inside d, answered (pos 0) (pos (perSecond - 1)) (start c .fits .millisecond) (c .before .outside4 .ensures) (c .if4 .left))
 
 time : (c : tie.Else4) → Time (start c .args .hour) (start c .args .minute) (start c .args .second) (start c .args .millisecond)
 time c = natural (start c .args .hour) (start c .args .minute) (start c .args .second) (start c .args .millisecond) (inside c)
 
 cast-time-of-fields : tie.Need-cast-time-of-fields
-cast-time-of-fields c = cast-within (start c .fits .hour) (time c .hour-within) (lit< tt)
+cast-time-of-fields c = cast-within (start c .fits .hour) (time c .hour-within)
 
 cast-time-of-fields-2 : tie.Need-cast-time-of-fields-2
-cast-time-of-fields-2 c = cast-within (start c .fits .minute) (time c .minute-within) (lit< tt)
+cast-time-of-fields-2 c = cast-within (start c .fits .minute) (time c .minute-within)
 
 cast-time-of-fields-3 : tie.Need-cast-time-of-fields-3
-cast-time-of-fields-3 c = cast-within (start c .fits .second) (time c .second-within) (lit< tt)
+cast-time-of-fields-3 c = cast-within (start c .fits .second) (time c .second-within)
 
 cast-time-of-fields-4 : tie.Need-cast-time-of-fields-4
-cast-time-of-fields-4 c = cast-within (start c .fits .millisecond) (time c .fraction-within) (lit< tt)
+cast-time-of-fields-4 c = cast-within (start c .fits .millisecond) (time c .fraction-within)
 
 time-of-fields-requires : tie.Need-time-of-fields-requires
 time-of-fields-requires c κs = let f = start c .fits in (
-  read-small (f .hour) (time c .hour-within),
-  (read-small (f .minute) (time c .minute-within), (read-small (f .second) (time c .second-within), omega (arith, read-small (f .millisecond) (time c .fraction-within)))),
+  read-high (f .hour) (time c .hour-within),
+  (read-high (f .minute) (time c .minute-within), (read-high (f .second) (time c .second-within), omega (arith, read-high (f .millisecond) (time c .fraction-within)))),
 )
 
 cast-t12 : tie.Need-cast-t12
