@@ -1,11 +1,11 @@
 //! The library against its rivals: one line for each pair, ours / rival.
 //!
-//! Both of a pair have the same signature, get the same inputs in the same run and answer alike, which is checked first.
-//! In each of many rounds they take turns on every part of the inputs, called through a pointer, so that neither is
-//! inlined. The time of a part is its median over the rounds, and the time of all the inputs is the sum over the parts: a
-//! part is short, so that what else the machine does meanwhile falls on few of them. A line has the ratio of these times,
-//! those of the single rounds (the median ratio of a part), and the best time of each for one call. The rivals are plain Rust (benches/rivals)
-//! and, where OVENQUILL_CHRONO is set, libstdc++'s chrono (benches/chrono.cpp).
+//! Both of a pair have the same signature, get the same inputs and buffers in the same run and answer alike, which is
+//! checked first. In each of many rounds they take turns on every part of the inputs, called through a pointer, so that
+//! neither is inlined. The time of a part is its median over the rounds, and the time of all the inputs is the sum over the
+//! parts: a part is short, so that what else the machine does meanwhile falls on few of them. A line has the ratio of these
+//! times, the spread of the rounds' ratios (a round's is the median of its parts'), and the best time of each for one call.
+//! The rivals are plain Rust (benches/rivals) and, where OVENQUILL_CHRONO is set, libstdc++'s chrono (benches/chrono.cpp).
 
 #[path = "../tests/support/random.rs"]
 #[allow(dead_code)]
@@ -15,6 +15,7 @@ mod rivals;
 use ovenquill::harness::raw;
 use ovenquill::harness::{self, Constants};
 use random::Random;
+use std::cell::RefCell;
 use std::hint::black_box;
 use std::time::Instant;
 
@@ -208,14 +209,18 @@ fn calendar_lines() {
 
 // Labels
 
+/// Buffers for labels, none across two cache lines.
+#[repr(align(64))]
+struct Buffers([[u8; 32]; 64]);
+
 /// Writes one label behind the other, so that no store waits for the last one.
-fn on_buffers<'a>(call: Writer, instants: &'a [i64]) -> Work<'a> {
+fn on_buffers<'a>(call: Writer, instants: &'a [i64], buffers: &'a RefCell<Buffers>) -> Work<'a> {
     let call = black_box(call);
-    let mut buffers = vec![[b'?'; 32]; 64];
     Box::new(move |part| {
+        let buffers = &mut buffers.borrow_mut().0;
         let mut answer = [0; 3];
         part_of(instants, part).iter().enumerate().fold(0, |sum, (place, &ms)| {
-            let out = &mut buffers[place % 64];
+            let out = &mut buffers[place % buffers.len()];
             // SAFETY: the pointers and the lengths are those of the buffer and the answer.
             unsafe { call(ms, out.as_mut_ptr(), out.len(), answer.as_mut_ptr(), answer.len()) };
             mixed(sum, &answer)
@@ -274,9 +279,17 @@ fn label_lines() {
     let long: Vec<i64> = (0..INPUTS).map(|_| random.of_any_size(0, 359999999999)).collect();
 
     let rust = "hand-written Rust";
+    let buffers = RefCell::new(Buffers([[b'?'; 32]; 64]));
     same_bytes(raw::harness_write_instant, rivals::write_instant, &instants);
     let (ours, rival) = (raw::harness_write_instant as Writer, rivals::write_instant as Writer);
-    line("write an instant label", rust, INPUTS, PARTS, on_buffers(ours, &instants), on_buffers(rival, &instants));
+    line(
+        "write an instant label",
+        rust,
+        INPUTS,
+        PARTS,
+        on_buffers(ours, &instants, &buffers),
+        on_buffers(rival, &instants, &buffers),
+    );
     for (inputs, what) in [(&labels, "read an instant label"), (&mixed_labels, "read a label, 1 in 8 damaged")] {
         let (ours, rival) = (raw::harness_read_instant as Reader, rivals::read_instant as Reader);
         line(what, rust, INPUTS, PARTS, on_labels(ours, inputs), on_labels(rival, inputs));
@@ -286,38 +299,42 @@ fn label_lines() {
     {
         let (ours, rival) = (raw::harness_write_position as Writer, rivals::write_position as Writer);
         same_bytes(ours, rival, inputs);
-        line(what, rust, INPUTS, PARTS, on_buffers(ours, inputs), on_buffers(rival, inputs));
+        line(what, rust, INPUTS, PARTS, on_buffers(ours, inputs, &buffers), on_buffers(rival, inputs, &buffers));
     }
 }
 
 // The recording index
 
-/// Indexes lists of that length, one after the other, each to the same days.
-fn on_lists<'a>(call: Index, instants: &'a [i64], parts: usize, length: usize) -> Work<'a> {
+/// Indexes the lists of a part, one after the other, each to the same days. Where a part is all the instants, every part
+/// has the same ones.
+fn on_lists<'a>(call: Index, instants: &'a [i64], part_length: usize, days: &'a RefCell<Vec<i32>>) -> Work<'a> {
     let call = black_box(call);
-    let mut days = vec![0; length];
     Box::new(move |part| {
-        let size = instants.len() / parts;
+        let first = part * part_length % instants.len();
+        let days = &mut *days.borrow_mut();
         let mut answer = [0; 3];
-        instants[part * size..(part + 1) * size].chunks(length).fold(0, |sum, list| {
+        instants[first..first + part_length].chunks(days.len()).fold(0, |sum, list| {
             // SAFETY: the pointers and the lengths are those of the lists and the answer.
             unsafe {
                 call(list.as_ptr(), list.len(), days.as_mut_ptr(), days.len(), answer.as_mut_ptr(), answer.len())
             };
-            mixed(sum ^ i64::from(days[length / 2]), &answer)
+            mixed(sum ^ i64::from(days[days.len() / 2]), &answer)
         })
     })
 }
 
 fn index_lines() {
+    const MILLION: usize = 1_000_000;
     let mut random = Random::new(103);
-    let instants: Vec<i64> = (0..1_000_000).map(|_| random.within(-62167219200000, 253402300799999)).collect();
-    for (inputs, parts, length) in [(1_000_000, 1, 1_000_000), (INPUTS, PARTS, 1024)] {
-        let list = &instants[..inputs];
-        let ours = on_lists(raw::harness_index_days, list, parts, length);
-        let rival = on_lists(rivals::index_days, list, parts, length);
+    let instants: Vec<i64> = (0..MILLION).map(|_| random.within(-62167219200000, 253402300799999)).collect();
+    for (list, parts, part_length, length) in
+        [(&instants[..], 5, MILLION, MILLION), (&instants[..INPUTS], PARTS, INPUTS / PARTS, 1024)]
+    {
+        let days = RefCell::new(vec![0; length]);
+        let ours = on_lists(raw::harness_index_days, list, part_length, &days);
+        let rival = on_lists(rivals::index_days, list, part_length, &days);
         let what = format!("index of {length}, for each instant");
-        line(&what, "`div_euclid` loop", inputs, parts, ours, rival);
+        line(&what, "`div_euclid` loop", parts * part_length, parts, ours, rival);
     }
 }
 
