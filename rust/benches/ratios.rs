@@ -75,6 +75,15 @@ fn shown(seconds: f64) -> String {
     }
 }
 
+/// A ratio with three digits behind the point, or more where it is small.
+fn shown_ratio(ratio: f64) -> String {
+    if ratio < 0.01 {
+        format!("{ratio:.5}")
+    } else {
+        format!("{ratio:.3}")
+    }
+}
+
 /// Measures both and prints the line.
 fn line<'a>(call: &str, rival_name: &str, inputs: usize, parts: usize, mut ours: Work<'a>, mut rival: Work<'a>) {
     for part in 0..parts {
@@ -104,12 +113,12 @@ fn line<'a>(call: &str, rival_name: &str, inputs: usize, parts: usize, mut ours:
     };
     let ratios: Vec<f64> = (0..ROUNDS).map(in_round).collect();
     println!(
-        "| {call} | {rival_name} | {:.3} | {:.3} to {:.3} | {:.3} to {:.3} | {} | {} |",
-        total(&our_times, 50) / total(&rival_times, 50),
-        percentile(&ratios, 0),
-        percentile(&ratios, 100),
-        percentile(&ratios, 25),
-        percentile(&ratios, 75),
+        "| {call} | {rival_name} | {} | {} to {} | {} to {} | {} | {} |",
+        shown_ratio(total(&our_times, 50) / total(&rival_times, 50)),
+        shown_ratio(percentile(&ratios, 0)),
+        shown_ratio(percentile(&ratios, 100)),
+        shown_ratio(percentile(&ratios, 25)),
+        shown_ratio(percentile(&ratios, 75)),
         shown(total(&our_times, 0) / inputs as f64),
         shown(total(&rival_times, 0) / inputs as f64),
     );
@@ -402,16 +411,18 @@ fn corners() -> Vec<Constants> {
         .collect()
 }
 
+/// Right claims where there is a difference, and else a bound with none at or below it.
+fn claims_of(searches: &[Set]) -> Vec<Set> {
+    let bound = |(q, end)| harness::first_difference(q, end).value().unwrap_or(LAST_END - 1);
+    searches.iter().map(|&search| (search.0, bound(search))).collect()
+}
+
 /// The walk takes up to milliseconds, so the lines with large divisors have fewer sets.
 fn constants_lines() {
     let mut random = Random::new(104);
     for (d_last, count) in [(16, INPUTS), (256, INPUTS), (4096, 4096), (1048575, 64)] {
         let searches: Vec<Set> = (0..count).map(|_| (near_exact(&mut random, d_last), LAST_END)).collect();
-        // Right claims where there is a difference, and else a bound with none at or below it.
-        let claims: Vec<Set> = searches
-            .iter()
-            .map(|&(q, end)| (q, harness::first_difference(q, end).value().unwrap_or(LAST_END - 1)))
-            .collect();
+        let claims = claims_of(&searches);
         let walk = "walk of the residues in Rust";
         let (ours, rival) = (raw::harness_first_difference as Checker, rivals::first_difference as Checker);
         let what = format!("search, d up to {d_last}");
@@ -426,8 +437,25 @@ fn constants_lines() {
     line("search, any allowed constants", walk, any.len(), PARTS, on_sets(ours, &any), on_sets(rival, &any));
 }
 
-/// Prints the mean and the worst time of each call over many sets. The time of a set is the best of five, so that the worst
-/// is the call's and not the machine's.
+/// The seconds that each call takes: the best of five passes over all the sets, so that a slow one is the call's and not
+/// the machine's.
+fn best_times(call: Checker, sets: &[Set]) -> Vec<f64> {
+    let call = black_box(call);
+    let mut best = vec![f64::INFINITY; sets.len()];
+    for _ in 0..5 {
+        for (best, &(q, end)) in best.iter_mut().zip(sets) {
+            let mut answer = [0; 3];
+            let start = Instant::now();
+            // SAFETY: the pointer and the length are those of the answer.
+            unsafe { call(q.a, q.b, q.d, q.m, q.c, q.k, q.t, end, answer.as_mut_ptr(), answer.len()) };
+            black_box(&answer);
+            *best = best.min(start.elapsed().as_secs_f64());
+        }
+    }
+    best
+}
+
+/// Prints the mean and the worst time of a search to the last end, and of a claim of what it found.
 fn constants_times() {
     let mut random = Random::new(105);
     let kinds: [(&str, Vec<Constants>); 3] = [
@@ -438,27 +466,9 @@ fn constants_times() {
     println!("| constants, to the last end | sets | search, mean | search, worst | claim, mean | claim, worst |");
     println!("|---|---|---|---|---|---|");
     for (kind, sets) in kinds {
-        let times = |call: Checker, bound: &dyn Fn(Constants) -> i64| -> Vec<f64> {
-            let call = black_box(call);
-            sets.iter()
-                .map(|&q| {
-                    let end = bound(q);
-                    let mut answer = [0; 3];
-                    let best = (0..5).map(|_| {
-                        let start = Instant::now();
-                        // SAFETY: the pointer and the length are those of the answer.
-                        unsafe { call(q.a, q.b, q.d, q.m, q.c, q.k, q.t, end, answer.as_mut_ptr(), answer.len()) };
-                        black_box(&answer);
-                        start.elapsed()
-                    });
-                    best.min().expect("five times").as_secs_f64()
-                })
-                .collect()
-        };
-        let search = times(raw::harness_first_difference, &|_| LAST_END);
-        let claim = times(raw::harness_check_bound, &|q| {
-            harness::first_difference(q, LAST_END).value().unwrap_or(LAST_END - 1)
-        });
+        let searches: Vec<Set> = sets.iter().map(|&q| (q, LAST_END)).collect();
+        let search = best_times(raw::harness_first_difference, &searches);
+        let claim = best_times(raw::harness_check_bound, &claims_of(&searches));
         let mean = |times: &[f64]| shown(times.iter().sum::<f64>() / times.len() as f64);
         println!(
             "| {kind} | {} | {} | {} | {} | {} |",
