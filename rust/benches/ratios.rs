@@ -22,7 +22,7 @@ use std::time::Instant;
 const ROUNDS: usize = 31;
 const INPUTS: usize = 131072;
 /// The parts that the inputs of a line are done in.
-const PARTS: usize = 16;
+const PARTS: usize = 64;
 const LAST_END: i64 = 4294967295;
 
 type OneNumber = unsafe extern "C" fn(i64, *mut i64, usize);
@@ -287,28 +287,37 @@ fn label_lines() {
     let short: Vec<i64> = (0..INPUTS).map(|_| random.within(0, 359999999)).collect();
     let long: Vec<i64> = (0..INPUTS).map(|_| random.of_any_size(0, 359999999999)).collect();
 
-    let rust = "hand-written Rust";
     let buffers = RefCell::new(Buffers([[b'?'; 32]; 64]));
-    same_bytes(raw::harness_write_instant, rivals::write_instant, &instants);
-    let (ours, rival) = (raw::harness_write_instant as Writer, rivals::write_instant as Writer);
-    line(
-        "write an instant label",
-        rust,
-        INPUTS,
-        PARTS,
-        on_buffers(ours, &instants, &buffers),
-        on_buffers(rival, &instants, &buffers),
-    );
-    for (inputs, what) in [(&labels, "read an instant label"), (&mixed_labels, "read a label, 1 in 8 damaged")] {
-        let (ours, rival) = (raw::harness_read_instant as Reader, rivals::read_instant as Reader);
-        line(what, rust, INPUTS, PARTS, on_labels(ours, inputs), on_labels(rival, inputs));
+    let writers: [(&str, &[i64], Writer, [Writer; 2]); 3] = [
+        (
+            "write an instant label",
+            &instants,
+            raw::harness_write_instant,
+            [rivals::write_instant::<true>, rivals::write_instant::<false>],
+        ),
+        (
+            "write a position label, below 100 hours",
+            &short,
+            raw::harness_write_position,
+            [rivals::write_position::<true>, rivals::write_position::<false>],
+        ),
+        (
+            "write a position label, of any size",
+            &long,
+            raw::harness_write_position,
+            [rivals::write_position::<true>, rivals::write_position::<false>],
+        ),
+    ];
+    for (what, inputs, ours, rivals) in writers {
+        for (name, rival) in ["Rust, table of two digits", "Rust, digit by digit"].into_iter().zip(rivals) {
+            same_bytes(ours, rival, inputs);
+            let (ours, rival) = (on_buffers(ours, inputs, &buffers), on_buffers(rival, inputs, &buffers));
+            line(what, name, INPUTS, PARTS, ours, rival);
+        }
     }
-    for (inputs, what) in
-        [(&short, "write a position label, below 100 hours"), (&long, "write a position label, of any size")]
-    {
-        let (ours, rival) = (raw::harness_write_position as Writer, rivals::write_position as Writer);
-        same_bytes(ours, rival, inputs);
-        line(what, rust, INPUTS, PARTS, on_buffers(ours, inputs, &buffers), on_buffers(rival, inputs, &buffers));
+    for (inputs, what) in [(&labels, "read an instant label"), (&mixed_labels, "read a label, 1 in 8 damaged")] {
+        let ours = on_labels(raw::harness_read_instant, inputs);
+        line(what, "hand-written Rust", INPUTS, PARTS, ours, on_labels(rivals::read_instant, inputs));
     }
 }
 
@@ -431,7 +440,7 @@ fn constants_lines() {
         let what = format!("claim, d up to {d_last}");
         line(&what, walk, count, PARTS, on_sets(ours, &claims), on_sets(rival, &claims));
     }
-    let any: Vec<Set> = (0..512).map(|_| (any_allowed(&mut random), LAST_END)).collect();
+    let any: Vec<Set> = (0..256).map(|_| (any_allowed(&mut random), LAST_END)).collect();
     let (ours, rival) = (raw::harness_first_difference as Checker, rivals::first_difference as Checker);
     let walk = "walk of the residues in Rust";
     line("search, any allowed constants", walk, any.len(), PARTS, on_sets(ours, &any), on_sets(rival, &any));
