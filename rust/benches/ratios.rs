@@ -4,7 +4,7 @@
 //! checked first. In each of many rounds they take turns on every part of the inputs, called through a pointer, so that
 //! neither is inlined. The time of a part is its median over the rounds, and the time of all the inputs is the sum over the
 //! parts: a part is short, so that what else the machine does meanwhile falls on few of them. A line has the ratio of these
-//! times, the spread of the rounds' ratios (a round's is the median of its parts'), and the best time of each for one call.
+//! times, the spread of the ratios of the single rounds, and the best time of each for one call.
 //! The rivals are plain Rust (benches/rivals) and, where OVENQUILL_CHRONO is set, libstdc++'s chrono (benches/chrono.cpp).
 
 #[path = "../tests/support/random.rs"]
@@ -65,6 +65,11 @@ fn total(times: &Times, percent: usize) -> f64 {
     times.iter().map(|rounds| percentile(rounds, percent)).sum()
 }
 
+/// The sum over the parts in one round. A part that was interrupted counts at most twice its median.
+fn in_round(times: &Times, round: usize) -> f64 {
+    times.iter().map(|rounds| rounds[round].min(2.0 * percentile(rounds, 50))).sum()
+}
+
 /// A time for one call, in the unit that suits it.
 fn shown(seconds: f64) -> String {
     let ns = seconds * 1e9;
@@ -105,13 +110,8 @@ fn line<'a>(call: &str, rival_name: &str, inputs: usize, parts: usize, mut ours:
             }
         }
     }
-    // The ratio of a round is the median one of its parts.
-    let in_round = |round: usize| {
-        let parts: Vec<f64> =
-            our_times.iter().zip(&rival_times).map(|(ours, rival)| ours[round] / rival[round]).collect();
-        percentile(&parts, 50)
-    };
-    let ratios: Vec<f64> = (0..ROUNDS).map(in_round).collect();
+    let ratios: Vec<f64> =
+        (0..ROUNDS).map(|round| in_round(&our_times, round) / in_round(&rival_times, round)).collect();
     println!(
         "| {call} | {rival_name} | {} | {} to {} | {} to {} | {} | {} |",
         shown_ratio(total(&our_times, 50) / total(&rival_times, 50)),
