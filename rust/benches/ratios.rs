@@ -1,11 +1,11 @@
 //! The library against its rivals: one line for each pair, ours / rival.
 //!
-//! Both of a pair have the same signature, get the same inputs in the same run and answer alike, which is checked first.
-//! In each of many rounds they take turns on every part of the inputs, called through a pointer, so that neither is
-//! inlined. The time of a part is its median over the rounds, and the time of all the inputs is the sum over the parts: a
-//! part is short, so that what else the machine does meanwhile falls on few of them. A line has the ratio of these times,
-//! those of the single rounds (the median ratio of a part), and the best time of each for one call. The rivals are plain Rust (benches/rivals)
-//! and, where OVENQUILL_CHRONO is set, libstdc++'s chrono (benches/chrono.cpp).
+//! Both of a pair have the same signature, get the same inputs and buffers in the same run and answer alike, which is
+//! checked first. In each of many rounds they take turns on every part of the inputs, called through a pointer, so that
+//! neither is inlined. The time of a part is its median over the rounds, and the time of all the inputs is the sum over the
+//! parts: a part is short, so that what else the machine does meanwhile falls on few of them. A line has the ratio of these
+//! times, the spread of the ratios of the single rounds, and the best time of each for one call.
+//! The rivals are plain Rust (benches/rivals) and, where OVENQUILL_CHRONO is set, libstdc++'s chrono (benches/chrono.cpp).
 
 #[path = "../tests/support/random.rs"]
 #[allow(dead_code)]
@@ -15,13 +15,14 @@ mod rivals;
 use ovenquill::harness::raw;
 use ovenquill::harness::{self, Constants};
 use random::Random;
+use std::cell::RefCell;
 use std::hint::black_box;
 use std::time::Instant;
 
 const ROUNDS: usize = 31;
 const INPUTS: usize = 131072;
 /// The parts that the inputs of a line are done in.
-const PARTS: usize = 16;
+const PARTS: usize = 64;
 const LAST_END: i64 = 4294967295;
 
 type OneNumber = unsafe extern "C" fn(i64, *mut i64, usize);
@@ -64,6 +65,11 @@ fn total(times: &Times, percent: usize) -> f64 {
     times.iter().map(|rounds| percentile(rounds, percent)).sum()
 }
 
+/// The sum over the parts in one round. A part that was interrupted counts at most twice its median.
+fn in_round(times: &Times, round: usize) -> f64 {
+    times.iter().map(|rounds| rounds[round].min(2.0 * percentile(rounds, 50))).sum()
+}
+
 /// A time for one call, in the unit that suits it.
 fn shown(seconds: f64) -> String {
     let ns = seconds * 1e9;
@@ -71,6 +77,15 @@ fn shown(seconds: f64) -> String {
         format!("{ns:.2} ns")
     } else {
         format!("{:.2} µs", ns / 1000.0)
+    }
+}
+
+/// A ratio with three digits behind the point, or more where it is small.
+fn shown_ratio(ratio: f64) -> String {
+    if ratio < 0.01 {
+        format!("{ratio:.5}")
+    } else {
+        format!("{ratio:.3}")
     }
 }
 
@@ -95,20 +110,15 @@ fn line<'a>(call: &str, rival_name: &str, inputs: usize, parts: usize, mut ours:
             }
         }
     }
-    // The ratio of a round is the median one of its parts.
-    let in_round = |round: usize| {
-        let parts: Vec<f64> =
-            our_times.iter().zip(&rival_times).map(|(ours, rival)| ours[round] / rival[round]).collect();
-        percentile(&parts, 50)
-    };
-    let ratios: Vec<f64> = (0..ROUNDS).map(in_round).collect();
+    let ratios: Vec<f64> =
+        (0..ROUNDS).map(|round| in_round(&our_times, round) / in_round(&rival_times, round)).collect();
     println!(
-        "| {call} | {rival_name} | {:.3} | {:.3} to {:.3} | {:.3} to {:.3} | {} | {} |",
-        total(&our_times, 50) / total(&rival_times, 50),
-        percentile(&ratios, 0),
-        percentile(&ratios, 100),
-        percentile(&ratios, 25),
-        percentile(&ratios, 75),
+        "| {call} | {rival_name} | {} | {} to {} | {} to {} | {} | {} |",
+        shown_ratio(total(&our_times, 50) / total(&rival_times, 50)),
+        shown_ratio(percentile(&ratios, 0)),
+        shown_ratio(percentile(&ratios, 100)),
+        shown_ratio(percentile(&ratios, 25)),
+        shown_ratio(percentile(&ratios, 75)),
         shown(total(&our_times, 0) / inputs as f64),
         shown(total(&rival_times, 0) / inputs as f64),
     );
@@ -208,14 +218,18 @@ fn calendar_lines() {
 
 // Labels
 
+/// Buffers for labels, none across two cache lines.
+#[repr(align(64))]
+struct Buffers([[u8; 32]; 64]);
+
 /// Writes one label behind the other, so that no store waits for the last one.
-fn on_buffers<'a>(call: Writer, instants: &'a [i64]) -> Work<'a> {
+fn on_buffers<'a>(call: Writer, instants: &'a [i64], buffers: &'a RefCell<Buffers>) -> Work<'a> {
     let call = black_box(call);
-    let mut buffers = vec![[b'?'; 32]; 64];
     Box::new(move |part| {
+        let buffers = &mut buffers.borrow_mut().0;
         let mut answer = [0; 3];
         part_of(instants, part).iter().enumerate().fold(0, |sum, (place, &ms)| {
-            let out = &mut buffers[place % 64];
+            let out = &mut buffers[place % buffers.len()];
             // SAFETY: the pointers and the lengths are those of the buffer and the answer.
             unsafe { call(ms, out.as_mut_ptr(), out.len(), answer.as_mut_ptr(), answer.len()) };
             mixed(sum, &answer)
@@ -273,51 +287,72 @@ fn label_lines() {
     let short: Vec<i64> = (0..INPUTS).map(|_| random.within(0, 359999999)).collect();
     let long: Vec<i64> = (0..INPUTS).map(|_| random.of_any_size(0, 359999999999)).collect();
 
-    let rust = "hand-written Rust";
-    same_bytes(raw::harness_write_instant, rivals::write_instant, &instants);
-    let (ours, rival) = (raw::harness_write_instant as Writer, rivals::write_instant as Writer);
-    line("write an instant label", rust, INPUTS, PARTS, on_buffers(ours, &instants), on_buffers(rival, &instants));
-    for (inputs, what) in [(&labels, "read an instant label"), (&mixed_labels, "read a label, 1 in 8 damaged")] {
-        let (ours, rival) = (raw::harness_read_instant as Reader, rivals::read_instant as Reader);
-        line(what, rust, INPUTS, PARTS, on_labels(ours, inputs), on_labels(rival, inputs));
+    let buffers = RefCell::new(Buffers([[b'?'; 32]; 64]));
+    let writers: [(&str, &[i64], Writer, [Writer; 2]); 3] = [
+        (
+            "write an instant label",
+            &instants,
+            raw::harness_write_instant,
+            [rivals::write_instant::<true>, rivals::write_instant::<false>],
+        ),
+        (
+            "write a position label, below 100 hours",
+            &short,
+            raw::harness_write_position,
+            [rivals::write_position::<true>, rivals::write_position::<false>],
+        ),
+        (
+            "write a position label, of any size",
+            &long,
+            raw::harness_write_position,
+            [rivals::write_position::<true>, rivals::write_position::<false>],
+        ),
+    ];
+    for (what, inputs, ours, rivals) in writers {
+        for (name, rival) in ["Rust, table of two digits", "Rust, digit by digit"].into_iter().zip(rivals) {
+            same_bytes(ours, rival, inputs);
+            let (ours, rival) = (on_buffers(ours, inputs, &buffers), on_buffers(rival, inputs, &buffers));
+            line(what, name, INPUTS, PARTS, ours, rival);
+        }
     }
-    for (inputs, what) in
-        [(&short, "write a position label, below 100 hours"), (&long, "write a position label, of any size")]
-    {
-        let (ours, rival) = (raw::harness_write_position as Writer, rivals::write_position as Writer);
-        same_bytes(ours, rival, inputs);
-        line(what, rust, INPUTS, PARTS, on_buffers(ours, inputs), on_buffers(rival, inputs));
+    for (inputs, what) in [(&labels, "read an instant label"), (&mixed_labels, "read a label, 1 in 8 damaged")] {
+        let ours = on_labels(raw::harness_read_instant, inputs);
+        line(what, "hand-written Rust", INPUTS, PARTS, ours, on_labels(rivals::read_instant, inputs));
     }
 }
 
 // The recording index
 
-/// Indexes lists of that length, one after the other, each to the same days.
-fn on_lists<'a>(call: Index, instants: &'a [i64], parts: usize, length: usize) -> Work<'a> {
+/// Indexes the lists of a part, one after the other, each to the same days. Where a part is all the instants, every part
+/// has the same ones.
+fn on_lists<'a>(call: Index, instants: &'a [i64], part_length: usize, days: &'a RefCell<Vec<i32>>) -> Work<'a> {
     let call = black_box(call);
-    let mut days = vec![0; length];
     Box::new(move |part| {
-        let size = instants.len() / parts;
+        let first = part * part_length % instants.len();
+        let days = &mut *days.borrow_mut();
         let mut answer = [0; 3];
-        instants[part * size..(part + 1) * size].chunks(length).fold(0, |sum, list| {
+        instants[first..first + part_length].chunks(days.len()).fold(0, |sum, list| {
             // SAFETY: the pointers and the lengths are those of the lists and the answer.
             unsafe {
                 call(list.as_ptr(), list.len(), days.as_mut_ptr(), days.len(), answer.as_mut_ptr(), answer.len())
             };
-            mixed(sum ^ i64::from(days[length / 2]), &answer)
+            mixed(sum ^ i64::from(days[days.len() / 2]), &answer)
         })
     })
 }
 
 fn index_lines() {
+    const MILLION: usize = 1_000_000;
     let mut random = Random::new(103);
-    let instants: Vec<i64> = (0..1_000_000).map(|_| random.within(-62167219200000, 253402300799999)).collect();
-    for (inputs, parts, length) in [(1_000_000, 1, 1_000_000), (INPUTS, PARTS, 1024)] {
-        let list = &instants[..inputs];
-        let ours = on_lists(raw::harness_index_days, list, parts, length);
-        let rival = on_lists(rivals::index_days, list, parts, length);
+    let instants: Vec<i64> = (0..MILLION).map(|_| random.within(-62167219200000, 253402300799999)).collect();
+    for (list, parts, part_length, length) in
+        [(&instants[..], 5, MILLION, MILLION), (&instants[..INPUTS], PARTS, INPUTS / PARTS, 1024)]
+    {
+        let days = RefCell::new(vec![0; length]);
+        let ours = on_lists(raw::harness_index_days, list, part_length, &days);
+        let rival = on_lists(rivals::index_days, list, part_length, &days);
         let what = format!("index of {length}, for each instant");
-        line(&what, "`div_euclid` loop", inputs, parts, ours, rival);
+        line(&what, "`div_euclid` loop", parts * part_length, parts, ours, rival);
     }
 }
 
@@ -385,16 +420,18 @@ fn corners() -> Vec<Constants> {
         .collect()
 }
 
+/// Right claims where there is a difference, and else a bound with none at or below it.
+fn claims_of(searches: &[Set]) -> Vec<Set> {
+    let bound = |(q, end)| harness::first_difference(q, end).value().unwrap_or(LAST_END - 1);
+    searches.iter().map(|&search| (search.0, bound(search))).collect()
+}
+
 /// The walk takes up to milliseconds, so the lines with large divisors have fewer sets.
 fn constants_lines() {
     let mut random = Random::new(104);
     for (d_last, count) in [(16, INPUTS), (256, INPUTS), (4096, 4096), (1048575, 64)] {
         let searches: Vec<Set> = (0..count).map(|_| (near_exact(&mut random, d_last), LAST_END)).collect();
-        // Right claims where there is a difference, and else a bound with none at or below it.
-        let claims: Vec<Set> = searches
-            .iter()
-            .map(|&(q, end)| (q, harness::first_difference(q, end).value().unwrap_or(LAST_END - 1)))
-            .collect();
+        let claims = claims_of(&searches);
         let walk = "walk of the residues in Rust";
         let (ours, rival) = (raw::harness_first_difference as Checker, rivals::first_difference as Checker);
         let what = format!("search, d up to {d_last}");
@@ -403,14 +440,31 @@ fn constants_lines() {
         let what = format!("claim, d up to {d_last}");
         line(&what, walk, count, PARTS, on_sets(ours, &claims), on_sets(rival, &claims));
     }
-    let any: Vec<Set> = (0..512).map(|_| (any_allowed(&mut random), LAST_END)).collect();
+    let any: Vec<Set> = (0..256).map(|_| (any_allowed(&mut random), LAST_END)).collect();
     let (ours, rival) = (raw::harness_first_difference as Checker, rivals::first_difference as Checker);
     let walk = "walk of the residues in Rust";
     line("search, any allowed constants", walk, any.len(), PARTS, on_sets(ours, &any), on_sets(rival, &any));
 }
 
-/// Prints the mean and the worst time of each call over many sets. The time of a set is the best of five, so that the worst
-/// is the call's and not the machine's.
+/// The seconds that each call takes: the best of five passes over all the sets, so that a slow one is the call's and not
+/// the machine's.
+fn best_times(call: Checker, sets: &[Set]) -> Vec<f64> {
+    let call = black_box(call);
+    let mut best = vec![f64::INFINITY; sets.len()];
+    for _ in 0..5 {
+        for (best, &(q, end)) in best.iter_mut().zip(sets) {
+            let mut answer = [0; 3];
+            let start = Instant::now();
+            // SAFETY: the pointer and the length are those of the answer.
+            unsafe { call(q.a, q.b, q.d, q.m, q.c, q.k, q.t, end, answer.as_mut_ptr(), answer.len()) };
+            black_box(&answer);
+            *best = best.min(start.elapsed().as_secs_f64());
+        }
+    }
+    best
+}
+
+/// Prints the mean and the worst time of a search to the last end, and of a claim of what it found.
 fn constants_times() {
     let mut random = Random::new(105);
     let kinds: [(&str, Vec<Constants>); 3] = [
@@ -421,27 +475,9 @@ fn constants_times() {
     println!("| constants, to the last end | sets | search, mean | search, worst | claim, mean | claim, worst |");
     println!("|---|---|---|---|---|---|");
     for (kind, sets) in kinds {
-        let times = |call: Checker, bound: &dyn Fn(Constants) -> i64| -> Vec<f64> {
-            let call = black_box(call);
-            sets.iter()
-                .map(|&q| {
-                    let end = bound(q);
-                    let mut answer = [0; 3];
-                    let best = (0..5).map(|_| {
-                        let start = Instant::now();
-                        // SAFETY: the pointer and the length are those of the answer.
-                        unsafe { call(q.a, q.b, q.d, q.m, q.c, q.k, q.t, end, answer.as_mut_ptr(), answer.len()) };
-                        black_box(&answer);
-                        start.elapsed()
-                    });
-                    best.min().expect("five times").as_secs_f64()
-                })
-                .collect()
-        };
-        let search = times(raw::harness_first_difference, &|_| LAST_END);
-        let claim = times(raw::harness_check_bound, &|q| {
-            harness::first_difference(q, LAST_END).value().unwrap_or(LAST_END - 1)
-        });
+        let searches: Vec<Set> = sets.iter().map(|&q| (q, LAST_END)).collect();
+        let search = best_times(raw::harness_first_difference, &searches);
+        let claim = best_times(raw::harness_check_bound, &claims_of(&searches));
         let mean = |times: &[f64]| shown(times.iter().sum::<f64>() / times.len() as f64);
         println!(
             "| {kind} | {} | {} | {} | {} | {} |",

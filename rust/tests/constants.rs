@@ -177,11 +177,12 @@ fn random_sets_with_larger_divisors_scanned() {
 #[test]
 fn random_sets_to_far_ends_walked() {
     let mut random = Random::new(19);
-    for set in 0..600 {
-        let d_last = if set % 2 == 0 { 1048575 } else { 30000 };
-        let q = if set % 8 == 0 { any_allowed(&mut random, d_last) } else { near_exact(&mut random, d_last) };
-        let end = if set % 4 == 0 { random.of_any_size(0, LAST_END) } else { LAST_END };
-        try_around(q, end, plain::walk(q, end));
+    for (d_last, sets) in [(100, 500_000), (3000, 100_000), (1048575, 800)] {
+        for set in 0..sets {
+            let q = if set % 8 == 0 { any_allowed(&mut random, d_last) } else { near_exact(&mut random, d_last) };
+            let end = if set % 4 == 0 { random.of_any_size(0, LAST_END) } else { LAST_END };
+            try_around(q, end, plain::walk(q, end));
+        }
     }
 }
 

@@ -1,4 +1,4 @@
-//! The crate `instants`: day, fields, joining and the recording index, against `div_euclid`, `rem_euclid` and the table of
+//! The crate `instant`: day, fields, joining and the recording index, against `div_euclid`, `rem_euclid` and the table of
 //! all days (tests/support/plain.rs), and against document 01's rows.
 #![cfg(feature = "harness")]
 

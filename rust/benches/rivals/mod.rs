@@ -128,7 +128,7 @@ pub unsafe extern "C" fn index_days(
     answer_with(answer, length, [0, days.len() as i64, 0]);
 }
 
-// Labels: two digits at a time, from a table.
+// Labels: two digits at a time, from a table or by a division.
 
 static PAIRS: [[u8; 2]; 100] = {
     let mut pairs = [[0; 2]; 100];
@@ -142,25 +142,36 @@ static PAIRS: [[u8; 2]; 100] = {
 
 /// Two digits of a number below 100.
 #[inline(always)]
-unsafe fn put_pair(out: *mut u8, n: u32) {
-    out.cast::<[u8; 2]>().write(*PAIRS.get_unchecked(n as usize));
+unsafe fn put_pair<const TABLE: bool>(out: *mut u8, n: u32) {
+    if TABLE {
+        out.cast::<[u8; 2]>().write(*PAIRS.get_unchecked(n as usize));
+    } else {
+        *out = b'0' + (n / 10) as u8;
+        *out.add(1) = b'0' + (n % 10) as u8;
+    }
 }
 
 /// `MM:SS.mmm` of a number of milliseconds below an hour.
 #[inline(always)]
-unsafe fn put_minutes(out: *mut u8, ms: u32) {
+unsafe fn put_minutes<const TABLE: bool>(out: *mut u8, ms: u32) {
     let seconds = ms / 1000;
     let millisecond = ms % 1000;
-    put_pair(out, seconds / 60);
+    put_pair::<TABLE>(out, seconds / 60);
     *out.add(2) = b':';
-    put_pair(out.add(3), seconds % 60);
+    put_pair::<TABLE>(out.add(3), seconds % 60);
     *out.add(5) = b'.';
     *out.add(6) = b'0' + (millisecond / 100) as u8;
-    put_pair(out.add(7), millisecond % 100);
+    put_pair::<TABLE>(out.add(7), millisecond % 100);
 }
 
 #[inline(never)]
-pub unsafe extern "C" fn write_instant(ms: i64, out: *mut u8, out_length: usize, answer: *mut i64, length: usize) {
+pub unsafe extern "C" fn write_instant<const TABLE: bool>(
+    ms: i64,
+    out: *mut u8,
+    out_length: usize,
+    answer: *mut i64,
+    length: usize,
+) {
     if !(FIRST_INSTANT..=LAST_INSTANT).contains(&ms) {
         return answer_with(answer, length, [1, 4, 0]);
     }
@@ -169,22 +180,28 @@ pub unsafe extern "C" fn write_instant(ms: i64, out: *mut u8, out_length: usize,
     }
     let date = date_of(ms.div_euclid(DAY));
     let rest = ms.rem_euclid(DAY) as u32;
-    put_pair(out, date.year / 100);
-    put_pair(out.add(2), date.year % 100);
+    put_pair::<TABLE>(out, date.year / 100);
+    put_pair::<TABLE>(out.add(2), date.year % 100);
     *out.add(4) = b'-';
-    put_pair(out.add(5), date.month);
+    put_pair::<TABLE>(out.add(5), date.month);
     *out.add(7) = b'-';
-    put_pair(out.add(8), date.day);
+    put_pair::<TABLE>(out.add(8), date.day);
     *out.add(10) = b'T';
-    put_pair(out.add(11), rest / 3600000);
+    put_pair::<TABLE>(out.add(11), rest / 3600000);
     *out.add(13) = b':';
-    put_minutes(out.add(14), rest % 3600000);
+    put_minutes::<TABLE>(out.add(14), rest % 3600000);
     *out.add(23) = b'Z';
     answer_with(answer, length, [0, 24, 0]);
 }
 
 #[inline(never)]
-pub unsafe extern "C" fn write_position(ms: i64, out: *mut u8, out_length: usize, answer: *mut i64, length: usize) {
+pub unsafe extern "C" fn write_position<const TABLE: bool>(
+    ms: i64,
+    out: *mut u8,
+    out_length: usize,
+    answer: *mut i64,
+    length: usize,
+) {
     if !(0..=LAST_POSITION).contains(&ms) {
         return answer_with(answer, length, [1, 6, 0]);
     }
@@ -200,23 +217,23 @@ pub unsafe extern "C" fn write_position(ms: i64, out: *mut u8, out_length: usize
         return answer_with(answer, length, [1, 7, 0]);
     }
     match digits {
-        2 => put_pair(out, hours),
+        2 => put_pair::<TABLE>(out, hours),
         3 => {
             *out = b'0' + (hours / 100) as u8;
-            put_pair(out.add(1), hours % 100);
+            put_pair::<TABLE>(out.add(1), hours % 100);
         }
         4 => {
-            put_pair(out, hours / 100);
-            put_pair(out.add(2), hours % 100);
+            put_pair::<TABLE>(out, hours / 100);
+            put_pair::<TABLE>(out.add(2), hours % 100);
         }
         _ => {
             *out = b'0' + (hours / 10000) as u8;
-            put_pair(out.add(1), hours / 100 % 100);
-            put_pair(out.add(3), hours % 100);
+            put_pair::<TABLE>(out.add(1), hours / 100 % 100);
+            put_pair::<TABLE>(out.add(3), hours % 100);
         }
     }
     *out.add(digits) = b':';
-    put_minutes(out.add(digits + 1), rest);
+    put_minutes::<TABLE>(out.add(digits + 1), rest);
     answer_with(answer, length, [0, digits as i64 + 10, 0]);
 }
 

@@ -34,13 +34,13 @@ pub fn try_answer_lengths(whole: usize, mut call: impl FnMut(&mut [i64])) {
     }
 }
 
-/// Lends the call the middle of a buffer and answers the middle as it is afterwards. The 48 bytes on either side must
-/// stay as they were.
+/// Lends the call the middle of a buffer and answers the middle as it is afterwards. The bytes on either side, 48 or a few
+/// more, must stay as they were.
 pub fn with_guards(length: usize, fill: u8, call: impl FnOnce(&mut [u8])) -> Vec<u8> {
-    const AROUND: usize = 48;
+    let around = 48 + length % 8;
     let guard = |place: usize| (place as u8).wrapping_mul(37) ^ 0xa5;
-    let mut bytes: Vec<u8> = (0..length + 2 * AROUND).map(guard).collect();
-    let middle = AROUND..AROUND + length;
+    let mut bytes: Vec<u8> = (0..length + 2 * around).map(guard).collect();
+    let middle = around..around + length;
     bytes[middle.clone()].fill(fill);
     call(&mut bytes[middle.clone()]);
     for (place, &byte) in bytes.iter().enumerate() {
