@@ -1,5 +1,10 @@
 pub mod Copy
+pub mod Words
+pub mod Cells
 pub mod Decimal
+pub mod Gaps
+pub mod Values
+pub mod ReadPairs
 pub mod Shapes
 pub mod Reading
 pub mod Spelling

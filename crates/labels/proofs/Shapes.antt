@@ -83,7 +83,7 @@ module _ (text : List ℕ) (i : ℕ) (shape : List ℕ) where
       (sym (take-append-drop count (drop i text)) ∙ ap₂ _++_ (sym d) e, sym (ap (fits shape) e) ∙ and-right (fits (digits 0 count) (take count (drop i text))) _ f)
 
   pub mark-front :
-      (mark : ℕ) → isDigit mark ≡ false → fits (mark ∷ shape) (drop i text) ≡ true →
+      (mark : ℕ) → eqb mark 48 ≡ false → fits (mark ∷ shape) (drop i text) ≡ true →
       (drop i text ≡ mark ∷ drop (i + 1) text) × (fits shape (drop (i + 1) text) ≡ true)
   mark-front mark m h = go (drop i text) refl h
     where

@@ -27,9 +27,9 @@ numberAt at count text = number (take count (drop at text))
 abbrev pub isDigit : ℕ → Bool
 isDigit byte = leb 48 byte && leb byte 57
 
--- a digit where the shape has one, and the same byte where it has another
+-- a digit where the shape has the digit 0, and the same byte where it has another
 abbrev pub fitsOne : (shape byte : ℕ) → Bool
-fitsOne shape byte = cond (isDigit shape) (isDigit byte) (eqb byte shape)
+fitsOne shape byte = cond (eqb shape 48) (isDigit byte) (eqb byte shape)
 
 -- a text as long as the shape, each byte of which fits
 abbrev pub fits : (shape text : List ℕ) → Bool

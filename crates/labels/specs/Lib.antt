@@ -1,4 +1,5 @@
 pub mod Digits
+pub mod Words
 pub mod Written
 pub mod Webvtt
 pub mod Rfc3339

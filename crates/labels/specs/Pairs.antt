@@ -1,31 +1,21 @@
--- The texts as the code spells them and the parts of a label as the code reads them, for proofs and private contracts only: nobody has
--- to believe them. They are shown equal to the labels in proofs/Spelling.antt and proofs/Reading.antt.
-use Prim.Native.Nat.{ℕ, _+_, _/_, _%_, _<_}
+-- Parts of the labels as the code spells and reads them, for proofs and private contracts only: nobody has to believe them.
+use Prim.Native.Nat.{ℕ, _/_, _%_, _<_}
 use mathlib.Core.Path.{_≡_}
 use mathlib.Core.Bool.{false, cond}
 use lib.IntN.{pos}
-use mathlib.Core.List.{List, [], _∷_, _++_}
+use mathlib.Core.List.{List, _∷_, _++_}
 use Rattle.numbers.specs.Range.{outside}
 use Rattle.instant.specs.declared.Fields.{Fields}
-use Rattle.labels.specs.Digits.{numberAt, fits}
-use Rattle.labels.specs.Rfc3339.{timeShape}
+use Rattle.labels.specs.Digits.{digits, numberAt, fits}
+use Rattle.labels.specs.Rfc3339.{dateText, timeText, dateShape, timeShape}
+use Rattle.labels.specs.declared.rfc3339.CivilDate.{CivilDate}
+use Rattle.labels.specs.declared.rfc3339.CivilDate.the-variants as C
 use Rattle.labels.specs.declared.rfc3339.Time.{Time}
 use Rattle.labels.specs.declared.rfc3339.Time.the-variants.{Read, Malformed}
 
--- two digits of a number below 100
-abbrev pub two : ℕ → List ℕ
-two n = (48 + n / 10) ∷ (48 + n % 10) ∷ []
-
--- three digits of a number below 1000
-abbrev pub three : ℕ → List ℕ
-three n = (48 + n / 100) ∷ (48 + n % 100 / 10) ∷ (48 + n % 10) ∷ []
-
--- five digits of a number below 100000
-abbrev pub five : ℕ → List ℕ
-five n = (48 + n / 10000) ∷ (48 + n % 10000 / 1000) ∷ (48 + n % 1000 / 100) ∷ (48 + n % 100 / 10) ∷ (48 + n % 10) ∷ []
-
-abbrev pub widestText : (hours rest : ℕ) → List ℕ
-widestText hours rest = five hours ++ 58 ∷ two (rest / 60000) ++ 58 ∷ two (rest % 60000 / 1000) ++ 46 ∷ three (rest % 1000)
+-- `:MM:SS.mmm` of the milliseconds of an hour
+abbrev pub textAfter : (rest : ℕ) → List ℕ
+textAfter rest = 58 ∷ digits (rest / 60000) 2 ++ 58 ∷ digits (rest % 60000 / 1000) 2 ++ 46 ∷ digits (rest % 1000) 3
 
 -- fields that the label has room for
 pub record Narrow (year month day hour minute second millisecond : ℕ) : Type 0 where
@@ -48,8 +38,11 @@ pub record NarrowFields (f : Fields) : Type 0 where
   pub millisecond-within : outside (pos 0) (pos 999) (f .millisecond) ≡ false
 
 abbrev pub spelledText : (year month day hour minute second millisecond : ℕ) → List ℕ
-spelledText year month day hour minute second millisecond =
-    two (year / 100) ++ two (year % 100) ++ 45 ∷ two month ++ 45 ∷ two day ++ 84 ∷ two hour ++ 58 ∷ two minute ++ 58 ∷ two second ++ 46 ∷ three millisecond ++ 90 ∷ []
+spelledText year month day hour minute second millisecond = dateText year month day ++ timeText 3 hour minute second millisecond
+
+-- the date in front
+abbrev pub readDate : List ℕ → CivilDate
+readDate part = cond (fits dateShape part) (C.Read (numberAt 0 4 part) (numberAt 5 2 part) (numberAt 8 2 part)) C.Malformed
 
 -- the time behind the date
 abbrev pub readTime : (decimals : ℕ) → List ℕ → Time

@@ -3,6 +3,7 @@
 use crate::WriteAnswer;
 use crate::buffer;
 use crate::digits;
+use crate::digits::Values;
 use crate::digits::ZERO;
 use instant::Fields;
 use instant::FieldsAnswer;
@@ -12,10 +13,9 @@ ghost use mathlib.Core.Path.{_≡_};
 ghost use Prim.Native.Nat.{_+_, _≤_};
 ghost use lib.ListN.{length};
 ghost use Rattle.instant.specs.Answers.{numberOutcome};
-ghost use Rattle.labels.specs.Digits.{fits};
 ghost use Rattle.labels.specs.Written.{writeOutcome, writeAnswer, writtenBuffer};
-ghost use Rattle.labels.specs.Rfc3339.{timeShape, labelText, instantLabel, readOutcome, readAnswer};
-ghost use Rattle.labels.specs.Pairs.{Narrow, NarrowFields, spelledText, readTime};
+ghost use Rattle.labels.specs.Rfc3339.{labelText, instantLabel, readOutcome, readAnswer};
+ghost use Rattle.labels.specs.Pairs.{Narrow, NarrowFields, spelledText, readDate, readTime};
 
 // How many decimals the seconds have, and how many bytes a label has.
 const DECIMALS: usize = 3;
@@ -73,31 +73,32 @@ fn spelled(
     requires { ⌜ Narrow year month day hour minute second millisecond ⌝ }
     ensures { λ r. ⌜ r ≡ spelledText year month day hour minute second millisecond ⌝ }
 {
-    let century = year / 100;
-    let rest = year % 100;
+    let year = digits::four(year);
+    let to_hour = digits::three_pairs(month, b'-', day, b'T', hour);
+    let to_decimals = digits::three_pairs(minute, b':', second, b'.', millisecond / 10);
     [
-        (ZERO + century / 10) as u8,
-        (ZERO + century % 10) as u8,
-        (ZERO + rest / 10) as u8,
-        (ZERO + rest % 10) as u8,
+        year[0],
+        year[1],
+        year[2],
+        year[3],
         b'-',
-        (ZERO + month / 10) as u8,
-        (ZERO + month % 10) as u8,
-        b'-',
-        (ZERO + day / 10) as u8,
-        (ZERO + day % 10) as u8,
-        b'T',
-        (ZERO + hour / 10) as u8,
-        (ZERO + hour % 10) as u8,
+        to_hour[0],
+        to_hour[1],
+        to_hour[2],
+        to_hour[3],
+        to_hour[4],
+        to_hour[5],
+        to_hour[6],
+        to_hour[7],
         b':',
-        (ZERO + minute / 10) as u8,
-        (ZERO + minute % 10) as u8,
-        b':',
-        (ZERO + second / 10) as u8,
-        (ZERO + second % 10) as u8,
-        b'.',
-        (ZERO + millisecond / 100) as u8,
-        (ZERO + millisecond % 100 / 10) as u8,
+        to_decimals[0],
+        to_decimals[1],
+        to_decimals[2],
+        to_decimals[3],
+        to_decimals[4],
+        to_decimals[5],
+        to_decimals[6],
+        to_decimals[7],
         (ZERO + millisecond % 10) as u8,
         b'Z',
     ]
@@ -110,23 +111,20 @@ pub fn read_instant(label: &[u8]) -> ReadAnswer
     if label.len() != LENGTH {
         return ReadAnswer::Refused(Refusal::MalformedLabel);
     }
-    if !digits::fits(b"0000-00-00", &label[..TIME]) {
-        return ReadAnswer::Refused(Refusal::MalformedLabel);
-    }
-    let year = digits::field(label, 0, 4);
-    let month = digits::field(label, 5, 2);
-    let day = digits::field(label, 8, 2);
-    match read_time(&label[TIME..], DECIMALS) {
-        Time::Read(hour, minute, second, millisecond) => answered(instant::join_instant(
-            year as i64,
-            month as i64,
-            day as i64,
-            hour as i64,
-            minute as i64,
-            second as i64,
-            millisecond as i64,
-        )),
-        Time::Malformed => ReadAnswer::Refused(Refusal::MalformedLabel),
+    match read_date(&label[..TIME]) {
+        CivilDate::Read(year, month, day) => match read_time(&label[TIME..], DECIMALS) {
+            Time::Read(hour, minute, second, millisecond) => answered(instant::join_instant(
+                year as i64,
+                month as i64,
+                day as i64,
+                hour as i64,
+                minute as i64,
+                second as i64,
+                millisecond as i64,
+            )),
+            Time::Malformed => ReadAnswer::Refused(Refusal::MalformedLabel),
+        },
+        CivilDate::Malformed => ReadAnswer::Refused(Refusal::MalformedLabel),
     }
 }
 
@@ -136,6 +134,30 @@ fn answered(answer: NumberAnswer) -> ReadAnswer
     match answer {
         NumberAnswer::Value(ms) => ReadAnswer::Value(ms),
         NumberAnswer::Refused(r) => ReadAnswer::Refused(r),
+    }
+}
+
+enum CivilDate {
+    // year, month and day
+    Read(u32, u32, u32),
+    Malformed,
+}
+
+// The date of a label, `YYYY-MM-DD`.
+fn read_date(part: &[u8]) -> CivilDate
+    requires { ⌜ length (now part) ≡ 10 ⌝ }
+    ensures { λ r. ⌜ r ≡ readDate (now (part .entry)) ⌝ }
+{
+    match digits::read_values(b"0000-00-", &part[..8]) {
+        Values::Read(front) => match digits::read_values(b"00", &part[8..]) {
+            Values::Read(back) => CivilDate::Read(
+                100 * digits::pair(front, 0) + digits::pair(front, 2),
+                digits::pair(front, 5),
+                digits::pair(back, 0),
+            ),
+            Values::Malformed => CivilDate::Malformed,
+        },
+        Values::Malformed => CivilDate::Malformed,
     }
 }
 
@@ -150,29 +172,27 @@ fn read_time(part: &[u8], decimals: usize) -> Time
     requires { ⌜ (decimals ≤ 6) × (length (now part) ≡ 11 + decimals) ⌝ }
     ensures { λ r. ⌜ r ≡ readTime decimals (now (part .entry)) ⌝ }
 {
-    if !is_time(part, decimals) {
+    let end = 10 + decimals;
+    if part[0] != b'T' {
         return Time::Malformed;
     }
-    Time::Read(
-        digits::field(part, 1, 2),
-        digits::field(part, 4, 2),
-        digits::field(part, 7, 2),
-        digits::field(part, 10, decimals),
-    )
-}
-
-// Whether a part has the shape of a time.
-fn is_time(part: &[u8], decimals: usize) -> bool
-    requires { ⌜ (decimals ≤ 6) × (length (now part) ≡ 11 + decimals) ⌝ }
-    ensures { λ r. ⌜ r ≡ fits (timeShape decimals) (now (part .entry)) ⌝ }
-{
-    let end = 10 + decimals;
+    if part[9] != b'.' {
+        return Time::Malformed;
+    }
+    if part[end] != b'Z' {
+        return Time::Malformed;
+    }
     let zeros = [b'0'; 6];
-    if !digits::fits(b"T00:00:00.", &part[..10]) {
-        return false;
+    match digits::read_values(b"00:00:00", &part[1..9]) {
+        Values::Read(clock) => match digits::read_values(&zeros[..decimals], &part[10..end]) {
+            Values::Read(fraction) => Time::Read(
+                digits::pair(clock, 0),
+                digits::pair(clock, 3),
+                digits::pair(clock, 6),
+                digits::field(part, 10, decimals),
+            ),
+            Values::Malformed => Time::Malformed,
+        },
+        Values::Malformed => Time::Malformed,
     }
-    if !digits::fits(&zeros[..decimals], &part[10..end]) {
-        return false;
-    }
-    digits::fits_one(b'Z', part[end])
 }

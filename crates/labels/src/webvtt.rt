@@ -2,21 +2,24 @@
 
 use crate::WriteAnswer;
 use crate::buffer;
+use crate::digits;
 use crate::digits::ZERO;
 use refusal::Refusal;
 ghost use mathlib.Core.Path.{_≡_};
 ghost use Prim.Native.Nat.{_<_};
+ghost use mathlib.Core.List.{_++_};
 ghost use Rattle.labels.specs.Written.{writeOutcome, writeAnswer, writtenBuffer};
 ghost use Rattle.labels.specs.Webvtt.{positionLabel};
-ghost use Rattle.labels.specs.Pairs.{widestText};
+ghost use Rattle.labels.specs.Digits.{digits};
+ghost use Rattle.labels.specs.Pairs.{textAfter};
 
 const LAST_POSITION: i64 = 359999999999;
 
 const MS_PER_HOUR: u64 = 3600000;
 
-const MS_PER_MINUTE: u32 = 60000;
-
 const MS_PER_SECOND: u32 = 1000;
+
+const SECONDS_PER_MINUTE: u32 = 60;
 
 // Writes the label of a position. 6 for a position outside the range, then 7 for a buffer shorter than the label.
 pub fn write_position(ms: i64, out: &mut [u8]) -> WriteAnswer
@@ -31,10 +34,12 @@ pub fn write_position(ms: i64, out: &mut [u8]) -> WriteAnswer
     }
     let n = ms as u64;
     let hours = (n / MS_PER_HOUR) as u32;
-    let text = widest(hours, (n % MS_PER_HOUR) as u32);
+    let rest = (n % MS_PER_HOUR) as u32;
     if hours < 100 {
-        return buffer::put(out, &text[3..]);
+        let text = shortest(hours, rest);
+        return buffer::put(out, &text);
     }
+    let text = widest(hours, rest);
     if hours < 1000 {
         return buffer::put(out, &text[2..]);
     }
@@ -44,29 +49,66 @@ pub fn write_position(ms: i64, out: &mut [u8]) -> WriteAnswer
     buffer::put(out, &text)
 }
 
+// The label with two digits of hours, from the hours and the milliseconds after them.
+fn shortest(hours: u32, rest: u32) -> [u8; 12]
+    requires { ⌜ (hours < 100) × (rest < 3600000) ⌝ }
+    ensures { λ r. ⌜ r ≡ digits hours 2 ++ textAfter rest ⌝ }
+{
+    let seconds = rest / MS_PER_SECOND;
+    let clock = digits::three_pairs(
+        hours,
+        b':',
+        seconds / SECONDS_PER_MINUTE,
+        b':',
+        seconds % SECONDS_PER_MINUTE,
+    );
+    let ms = digits::four(rest % MS_PER_SECOND);
+    [
+        clock[0],
+        clock[1],
+        clock[2],
+        clock[3],
+        clock[4],
+        clock[5],
+        clock[6],
+        clock[7],
+        b'.',
+        ms[1],
+        ms[2],
+        ms[3],
+    ]
+}
+
 // The label with five digits of hours, from the hours and the milliseconds after them.
 fn widest(hours: u32, rest: u32) -> [u8; 15]
     requires { ⌜ (hours < 100000) × (rest < 3600000) ⌝ }
-    ensures { λ r. ⌜ r ≡ widestText hours rest ⌝ }
+    ensures { λ r. ⌜ r ≡ digits hours 5 ++ textAfter rest ⌝ }
 {
-    let minutes = rest / MS_PER_MINUTE;
-    let seconds = rest % MS_PER_MINUTE / MS_PER_SECOND;
+    let seconds = rest / MS_PER_SECOND;
     let ms = rest % MS_PER_SECOND;
+    let last_hours = digits::four(hours % 10000);
+    let to_decimals = digits::three_pairs(
+        seconds / SECONDS_PER_MINUTE,
+        b':',
+        seconds % SECONDS_PER_MINUTE,
+        b'.',
+        ms / 10,
+    );
     [
         (ZERO + hours / 10000) as u8,
-        (ZERO + hours % 10000 / 1000) as u8,
-        (ZERO + hours % 1000 / 100) as u8,
-        (ZERO + hours % 100 / 10) as u8,
-        (ZERO + hours % 10) as u8,
+        last_hours[0],
+        last_hours[1],
+        last_hours[2],
+        last_hours[3],
         b':',
-        (ZERO + minutes / 10) as u8,
-        (ZERO + minutes % 10) as u8,
-        b':',
-        (ZERO + seconds / 10) as u8,
-        (ZERO + seconds % 10) as u8,
-        b'.',
-        (ZERO + ms / 100) as u8,
-        (ZERO + ms % 100 / 10) as u8,
+        to_decimals[0],
+        to_decimals[1],
+        to_decimals[2],
+        to_decimals[3],
+        to_decimals[4],
+        to_decimals[5],
+        to_decimals[6],
+        to_decimals[7],
         (ZERO + ms % 10) as u8,
     ]
 }

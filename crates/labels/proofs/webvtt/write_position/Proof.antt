@@ -1,13 +1,12 @@
--- The widest text without its leading zeros is the label.
-use mathlib.Core.Path.{ap, _∙_}
-use native.Mathlib.Omega.{arith}
-use lib.IntN.{natAbs}
-use lib.ListN.{take, drop}
-use mir.Syntax.{w64}
-use Rattle.numbers.proofs.Machine.{read, cast-pos}
-use Rattle.labels.proofs.Copy.{nothing-written}
-use Rattle.labels.proofs.Spelling.{two-hours, three-hours, four-hours, five-hours}
 use Rattle.labels.proofs.Positions.{in-range, below-range, above-range, label-written}
+use Rattle.labels.proofs.Spelling.{two-hours, three-hours, four-hours, five-hours}
+use Rattle.labels.proofs.Copy.{nothing-written}
+use Rattle.numbers.proofs.Machine.{read, cast-pos}
+use mir.Syntax.{w64}
+use lib.ListN.{take, drop}
+use lib.IntN.{natAbs}
+use native.Mathlib.Omega.{arith}
+use mathlib.Core.Path.{ap, _∙_}
 use borrow.Author.Needs.{needs}
 use Rattle.labels.proofs.webvtt.write_position.Statement.{statement}
 use Rattle.labels.proofs.webvtt.write_position.Tie as tie
@@ -24,11 +23,31 @@ cast-n c = let r = in-range (read (c .before .before .before .args .ms)) (c .bef
 cast-hours : tie.Need-cast-hours
 cast-hours c = omega (arith, in-range (read (c .before .before .before .args .ms)) (c .before .if1 .left) (c .if2 .left) .1)
 
-cast-widest : tie.Need-cast-widest
-cast-widest c = search needs
+cast-rest : tie.Need-cast-rest
+cast-rest c = search needs
+
+shortest-requires : tie.Need-shortest-requires
+shortest-requires c κs = search needs
+
+slice-aggregate-put : tie.Need-slice-aggregate-put
+slice-aggregate-put c = search needs
+
+put-requires : tie.Need-put-requires
+put-requires c κs = search needs
+
+same-length : tie.Need-same-length
+same-length c = search needs
+
+returns-3 : tie.Need-returns-3
+returns-3 c =
+    let s = c .before .before .before .before .before .before .before .before .before .before in
+    let n = natAbs (read (s .args .ms)) in
+    label-written (s .fits .ms) (c .before .before .before .before .before .before .before .before .if1 .left) (c .before .before .before .before .before .before .before .if2 .left) (s .args .out .now)
+    (c .before .before .before .before .before .shortest .ensures ∙ two-hours n (c .before .before .before .before .before .before .if3 .taken))
+    (c .before .before .put .ensures)
 
 widest-requires : tie.Need-widest-requires
-widest-requires c κs = omega (arith, in-range (read (c .before .before .before .args .ms)) (c .before .if1 .left) (c .if2 .left) .1)
+widest-requires c κs = omega (arith, in-range (read (c .before .before .before .before .args .ms)) (c .before .before .if1 .left) (c .before .if2 .left) .1)
 
 sub-put : tie.Need-sub-put
 sub-put c = search needs
@@ -39,21 +58,19 @@ part-put-start c = search needs
 part-put-end : tie.Need-part-put-end
 part-put-end c = search needs
 
-put-requires : tie.Need-put-requires
-put-requires c κs = search needs
+put-requires-2 : tie.Need-put-requires-2
+put-requires-2 c κs = search needs
 
-same-length : tie.Need-same-length
-same-length c = search needs
+same-length-2 : tie.Need-same-length-2
+same-length-2 c = search needs
 
-returns-3 : tie.Need-returns-3
-returns-3 c =
-    let s = c .before .before .before .before .before .before .before .before .before .before .before in
-    let lo = c .before .before .before .before .before .before .before .before .before .if1 .left in
-    let hi = c .before .before .before .before .before .before .before .before .if2 .left in
-    let r = in-range (read (s .args .ms)) lo hi in
-    label-written (s .fits .ms) lo hi (s .args .out .now)
-    (ap (λ l. take 12 (drop 3 l)) (c .before .before .before .before .before .before .before .widest .ensures) ∙ two-hours (natAbs (read (s .args .ms))) (r .1) (c .before .before .before .before .before .before .if3 .taken))
-    (c .before .before .put .ensures)
+returns-4 : tie.Need-returns-4
+returns-4 c =
+    let s = c .before .before .before .before .before .before .before .before .before .before .before .before in
+    let n = natAbs (read (s .args .ms)) in
+    label-written (s .fits .ms) (c .before .before .before .before .before .before .before .before .before .before .if1 .left) (c .before .before .before .before .before .before .before .before .before .if2 .left) (s .args .out .now)
+    (ap (λ l. take 13 (drop 2 l)) (c .before .before .before .before .before .before .before .widest .ensures) ∙ three-hours n (c .before .before .before .before .before .before .before .before .if3 .left) (c .before .before .before .before .before .before .if4 .taken))
+    (c .before .before .put2 .ensures)
 
 sub-put-2 : tie.Need-sub-put-2
 sub-put-2 c = search needs
@@ -64,31 +81,6 @@ part-put-start-2 c = search needs
 part-put-end-2 : tie.Need-part-put-end-2
 part-put-end-2 c = search needs
 
-put-requires-2 : tie.Need-put-requires-2
-put-requires-2 c κs = search needs
-
-same-length-2 : tie.Need-same-length-2
-same-length-2 c = search needs
-
-returns-4 : tie.Need-returns-4
-returns-4 c =
-    let s = c .before .before .before .before .before .before .before .before .before .before .before .before in
-    let lo = c .before .before .before .before .before .before .before .before .before .before .if1 .left in
-    let hi = c .before .before .before .before .before .before .before .before .before .if2 .left in
-    let r = in-range (read (s .args .ms)) lo hi in
-    label-written (s .fits .ms) lo hi (s .args .out .now)
-    (ap (λ l. take 13 (drop 2 l)) (c .before .before .before .before .before .before .before .before .widest .ensures) ∙ three-hours (natAbs (read (s .args .ms))) (r .1) (c .before .before .before .before .before .before .before .if3 .left) (c .before .before .before .before .before .before .if4 .taken))
-    (c .before .before .put2 .ensures)
-
-sub-put-3 : tie.Need-sub-put-3
-sub-put-3 c = search needs
-
-part-put-start-3 : tie.Need-part-put-start-3
-part-put-start-3 c = search needs
-
-part-put-end-3 : tie.Need-part-put-end-3
-part-put-end-3 c = search needs
-
 put-requires-3 : tie.Need-put-requires-3
 put-requires-3 c κs = search needs
 
@@ -98,15 +90,13 @@ same-length-3 c = search needs
 returns-5 : tie.Need-returns-5
 returns-5 c =
     let s = c .before .before .before .before .before .before .before .before .before .before .before .before .before in
-    let lo = c .before .before .before .before .before .before .before .before .before .before .before .if1 .left in
-    let hi = c .before .before .before .before .before .before .before .before .before .before .if2 .left in
-    let r = in-range (read (s .args .ms)) lo hi in
-    label-written (s .fits .ms) lo hi (s .args .out .now)
-    (ap (λ l. take 14 (drop 1 l)) (c .before .before .before .before .before .before .before .before .before .widest .ensures) ∙ four-hours (natAbs (read (s .args .ms))) (r .1) (c .before .before .before .before .before .before .before .before .if3 .left) (c .before .before .before .before .before .before .before .if4 .left) (c .before .before .before .before .before .before .if5 .taken))
+    let n = natAbs (read (s .args .ms)) in
+    label-written (s .fits .ms) (c .before .before .before .before .before .before .before .before .before .before .before .if1 .left) (c .before .before .before .before .before .before .before .before .before .before .if2 .left) (s .args .out .now)
+    (ap (λ l. take 14 (drop 1 l)) (c .before .before .before .before .before .before .before .before .widest .ensures) ∙ four-hours n (c .before .before .before .before .before .before .before .before .before .if3 .left) (c .before .before .before .before .before .before .before .if4 .left) (c .before .before .before .before .before .before .if5 .taken))
     (c .before .before .put3 .ensures)
 
-slice-aggregate-put : tie.Need-slice-aggregate-put
-slice-aggregate-put c = search needs
+slice-aggregate-put-2 : tie.Need-slice-aggregate-put-2
+slice-aggregate-put-2 c = search needs
 
 put-requires-4 : tie.Need-put-requires-4
 put-requires-4 c κs = search needs
@@ -117,11 +107,9 @@ same-length-4 c = search needs
 returns-6 : tie.Need-returns-6
 returns-6 c =
     let s = c .before .before .before .before .before .before .before .before .before .before .before .before in
-    let lo = c .before .before .before .before .before .before .before .before .before .before .if1 .left in
-    let hi = c .before .before .before .before .before .before .before .before .before .if2 .left in
-    let r = in-range (read (s .args .ms)) lo hi in
-    label-written (s .fits .ms) lo hi (s .args .out .now)
-    (c .before .before .before .before .before .before .before .before .widest .ensures ∙ five-hours (natAbs (read (s .args .ms))) (r .1) (c .before .before .before .before .before .before .before .if3 .left) (c .before .before .before .before .before .before .if4 .left) (c .before .before .before .before .before .if5 .left))
+    let n = natAbs (read (s .args .ms)) in
+    label-written (s .fits .ms) (c .before .before .before .before .before .before .before .before .before .before .if1 .left) (c .before .before .before .before .before .before .before .before .before .if2 .left) (s .args .out .now)
+    (c .before .before .before .before .before .before .before .widest .ensures ∙ five-hours n (c .before .before .before .before .before .before .before .before .if3 .left) (c .before .before .before .before .before .before .if4 .left) (c .before .before .before .before .before .if5 .left))
     (c .before .before .put4 .ensures)
 
 pub write-position-spec : {M : Type 1} → statement M
@@ -132,27 +120,26 @@ write-position-spec =
     returns-2
     cast-n
     cast-hours
-    cast-widest
+    cast-rest
+    shortest-requires
+    slice-aggregate-put
+    put-requires
+    same-length
+    returns-3
     widest-requires
     sub-put
     part-put-start
     part-put-end
-    put-requires
-    same-length
-    returns-3
-    sub-put-2
-    part-put-start-2
-    part-put-end-2
     put-requires-2
     same-length-2
     returns-4
-    sub-put-3
-    part-put-start-3
-    part-put-end-3
+    sub-put-2
+    part-put-start-2
+    part-put-end-2
     put-requires-3
     same-length-3
     returns-5
-    slice-aggregate-put
+    slice-aggregate-put-2
     put-requires-4
     same-length-4
     returns-6)

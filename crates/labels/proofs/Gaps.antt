@@ -1,0 +1,233 @@
+-- The test of a text against a shape, some bytes at a time: where a shape fits, each byte differs from it by a digit's value at most.
+use Prim.Native.Nat.{ℕ, zero, suc, _+_, _-_, _*_, _/_, _%_, _≤_, _<_}
+use mathlib.Core.Path.{_≡_, refl, sym, ap, ap₂, _∙_}
+use mathlib.Core.Bool.{Bool, true, false, cond, _&&_}
+use mathlib.Core.List.{List, [], _∷_}
+use native.Mathlib.Omega.{arith}
+use borrow.Author.Tests.{eqb-true, eq-eqb, le-leb}
+use lib.Bits.{bitAnd, bitXor, and-block, xor-block, and-mask, and-zero-r, xor-zero-r, xor-self, xor-lt, xor-add-and, and-le-l, and-le-r}
+use lib.Dec.{eqb, lit<}
+use lib.ListN.{length, replicate}
+use Rattle.labels.specs.Digits.{isDigit, fitsOne, fits}
+use Rattle.labels.specs.Words.{word, maskOne, mask, above}
+use Rattle.labels.proofs.Decimal.{and-left, and-right, digit-range}
+use Rattle.labels.proofs.Words.{AllLe}
+
+-- ---- one byte
+
+-- the high four bits of a byte
+high : (y : ℕ) → bitAnd y 240 ≡ y / 16 % 16 * 16
+high y =
+    let e : y ≡ y / 16 * 16 + y % 16 = omega arith in
+    let l : y % 16 < 16 = omega arith in
+    ap (λ y. bitAnd y 240) e
+    ∙ and-block 4 (y / 16) 15 (y % 16) 0 l (lit< tt)
+    ∙ ap₂ (λ a b. a * 16 + b) (and-mask (y / 16) 4) (and-zero-r (y % 16))
+    ∙ omega arith
+
+low-of : (x : ℕ) → x < 16 → x % 16 * 16 ≡ 0 → x ≡ 0
+low-of x l e = let m : x % 16 ≡ x = omega arith in let k : x * 16 ≡ 0 = sym (ap (λ x. x * 16) m) ∙ e in omega (arith, k)
+
+no-high : (x r : ℕ) → x < 16 → r < 16 → (x * 16 + r) / 16 % 16 * 16 ≡ 0 → x ≡ 0
+no-high x r l m e = let d : (x * 16 + r) / 16 ≡ x = omega arith in low-of x l (sym (ap (λ y. y % 16 * 16) d) ∙ e)
+
+-- numbers that do not differ in a bit are equal
+same : (a b : ℕ) → bitXor a b ≡ 0 → a ≡ b
+same a b e = omega (arith, xor-add-and a b, and-le-l a b, and-le-r a b)
+
+digit-gap : (b : ℕ) → bitXor b 48 ≡ bitXor (b / 16) 3 * 16 + b % 16
+digit-gap b =
+    let e : b ≡ b / 16 * 16 + b % 16 = omega arith in
+    let l : b % 16 < 16 = omega arith in
+    ap (λ b. bitXor b 48) e
+    ∙ xor-block 4 (b / 16) 3 (b % 16) 0 l (lit< tt)
+    ∙ ap (λ r. bitXor (b / 16) 3 * 16 + r) (xor-zero-r (b % 16))
+
+-- the value of a byte that fits is that of a digit
+pub value-le : (s b : ℕ) → fitsOne s b ≡ true → b - s ≤ 9
+value-le s b h = go (eqb s 48) refl h
+  where
+    go : (d : Bool) → eqb s 48 ≡ d → cond d (isDigit b) (eqb b s) ≡ true → b - s ≤ 9
+    go true d h = let r = digit-range b h in omega (arith, eqb-true s 48 d, r .1)
+    go false d h = omega (arith, eqb-true b s h)
+
+-- what fits differs by its value, in the low bits where a digit stands, and nowhere at a mark
+pub record Fit (s b : ℕ) : Type 0 where
+  pub gap-is : bitXor b s ≡ b - s
+  pub settled : bitAnd (bitXor b s) (maskOne s) ≡ 0
+
+-- what is settled differs in the low bits at most, and fits if that is the value of a digit
+pub record Settled (s b : ℕ) : Type 0 where
+  pub gap-le : bitXor b s ≤ 15
+  pub fits-if : bitXor b s ≤ 9 → fitsOne s b ≡ true
+
+module _ (s b : ℕ) (hs : s ≤ 255) (hb : b ≤ 255) where
+  pub fit : fitsOne s b ≡ true → Fit s b
+  fit h = go (eqb s 48) refl h
+    where
+      go : (d : Bool) → eqb s 48 ≡ d → cond d (isDigit b) (eqb b s) ≡ true → Fit s b
+      go true d h =
+          let e = eqb-true s 48 d in
+          let r = digit-range b h in
+          let q : b / 16 ≡ 3 = omega (arith, r .0, r .1) in
+          let g : bitXor b 48 ≡ b - 48 = digit-gap b ∙ ap (λ q. bitXor q 3 * 16 + b % 16) q ∙ omega (arith, r .0, r .1) in
+          rw e record {
+            gap-is = g;
+            settled = ap (λ g. bitAnd g 240) g ∙ high (b - 48) ∙ omega (arith, r .1);
+          }
+      go false d h =
+          let e = eqb-true b s h in
+          let g : bitXor b s ≡ 0 = ap (λ b. bitXor b s) e ∙ xor-self s in
+          record {
+            gap-is = g ∙ omega arith;
+            settled = ap₂ bitAnd g (ap (λ d. cond d 240 255) d);
+          }
+
+  pub settle : bitAnd (bitXor b s) (maskOne s) ≡ 0 → Settled s b
+  settle h = go (eqb s 48) refl h
+    where
+      go : (d : Bool) → eqb s 48 ≡ d → bitAnd (bitXor b s) (cond d 240 255) ≡ 0 → Settled s b
+      go true d h =
+          let e = eqb-true s 48 d in
+          let x = bitXor (b / 16) 3 in
+          let q : b / 16 < 16 = omega arith in
+          let l : x < 16 = xor-lt 4 (b / 16) 3 q (lit< tt) in
+          let g = digit-gap b in
+          let z : (x * 16 + b % 16) / 16 % 16 * 16 ≡ 0 =
+          sym (high (x * 16 + b % 16)) ∙ ap (λ g. bitAnd g 240) (sym g ∙ ap (bitXor b) (sym e)) ∙ h in
+          let k = no-high x (b % 16) l (omega arith) z in
+          let f = same (b / 16) 3 k in
+          let gap : bitXor b s ≡ b % 16 = ap (bitXor b) e ∙ g ∙ omega (arith, k) in
+          record {
+            gap-le = omega (arith, gap);
+            fits-if = λ n. ap (λ d. cond d (isDigit b) (eqb b s)) d
+                ∙ ap₂ _&&_ (le-leb 48 b (omega (arith, f))) (le-leb b 57 (omega (arith, f, gap, n)));
+          }
+      go false d h =
+          let l : bitXor b s < 256 = xor-lt 8 b s (omega arith) (omega arith) in
+          let z : bitXor b s % 256 ≡ 0 = sym (and-mask (bitXor b s) 8) ∙ h in
+          let k : bitXor b s ≡ 0 = omega (arith, z, l) in
+          record {
+            gap-le = omega (arith, k);
+            fits-if = λ n. ap (λ d. cond d (isDigit b) (eqb b s)) d ∙ eq-eqb b s (same b s k);
+          }
+
+-- ---- all bytes
+
+abbrev pub gaps : (shape text : List ℕ) → List ℕ
+gaps [] text = []
+gaps (s ∷ ss) [] = []
+gaps (s ∷ ss) (b ∷ bs) = bitXor b s ∷ gaps ss bs
+
+-- both are of one length, and all of both are bytes
+abbrev pub Both : (shape text : List ℕ) → Type 0
+Both shape text = (length shape ≡ length text) × (AllLe 255 shape × AllLe 255 text)
+
+rest-both : (s b : ℕ) (ss bs : List ℕ) → Both (s ∷ ss) (b ∷ bs) → Both ss bs
+rest-both s b ss bs h = (omega (arith, h .0), (h .1 .0 .1, h .1 .1 .1))
+
+pub word-gaps : (shape text : List ℕ) → Both shape text → bitXor (word text) (word shape) ≡ word (gaps shape text)
+word-gaps [] [] h = refl
+word-gaps [] (b ∷ bs) h = absurd (omega (arith, h .0))
+word-gaps (s ∷ ss) [] h = absurd (omega (arith, h .0))
+word-gaps (s ∷ ss) (b ∷ bs) h =
+    let x : b < 256 = omega (arith, h .1 .1 .0) in
+    let y : s < 256 = omega (arith, h .1 .0 .0) in
+    xor-block 8 (word bs) (word ss) b s x y ∙ ap (λ r. r * 256 + bitXor b s) (word-gaps ss bs (rest-both s b ss bs h))
+
+-- the bits that a shape settles
+and-mask-gaps :
+    (s b : ℕ) (ss bs : List ℕ) → s ≤ 255 → b ≤ 255 →
+    bitAnd (word (gaps (s ∷ ss) (b ∷ bs))) (mask (s ∷ ss)) ≡ bitAnd (word (gaps ss bs)) (mask ss) * 256 + bitAnd (bitXor b s) (maskOne s)
+and-mask-gaps s b ss bs hs hb =
+    and-block 8 (word (gaps ss bs)) (mask ss) (bitXor b s) (maskOne s) (xor-lt 8 b s (omega arith) (omega arith)) (mask-below s)
+  where
+    mask-below : (s : ℕ) → maskOne s < 256
+    mask-below s = go (eqb s 48)
+      where
+        go : (d : Bool) → cond d 240 255 < 256
+        go true = lit< tt
+        go false = lit< tt
+
+-- the values of a text that fits are those of digits
+pub values-le : (shape text : List ℕ) → fits shape text ≡ true → AllLe 9 (above shape text)
+values-le [] text f = tt
+values-le (s ∷ ss) [] f = tt
+values-le (s ∷ ss) (b ∷ bs) f =
+    (value-le s b (and-left (fitsOne s b) (fits ss bs) f), values-le ss bs (and-right (fitsOne s b) (fits ss bs) f))
+
+pub record AllFit (shape text : List ℕ) : Type 0 where
+  pub gaps-are : gaps shape text ≡ above shape text
+  pub all-settled : bitAnd (word (gaps shape text)) (mask shape) ≡ 0
+
+pub all-fit : (shape text : List ℕ) → Both shape text → fits shape text ≡ true → AllFit shape text
+all-fit [] text h f = record { gaps-are = refl; all-settled = refl }
+all-fit (s ∷ ss) [] h f = absurd (omega (arith, h .0))
+all-fit (s ∷ ss) (b ∷ bs) h f =
+    let hs = h .1 .0 .0 in
+    let hb = h .1 .1 .0 in
+    let o = fit s b hs hb (and-left (fitsOne s b) (fits ss bs) f) in
+    let r = all-fit ss bs (rest-both s b ss bs h) (and-right (fitsOne s b) (fits ss bs) f) in
+    record {
+      gaps-are = ap₂ _∷_ (o .gap-is) (r .gaps-are);
+      all-settled = and-mask-gaps s b ss bs hs hb ∙ ap₂ (λ x y. x * 256 + y) (r .all-settled) (o .settled);
+    }
+
+-- both parts of a number in two parts are 0 where it is
+no-part : (x y : ℕ) → x * 256 + y ≡ 0 → (x ≡ 0) × (y ≡ 0)
+no-part x y e = (omega arith, omega arith)
+
+pub record AllSettled (shape text : List ℕ) : Type 0 where
+  pub gaps-le : AllLe 15 (gaps shape text)
+  pub fit-if : AllLe 9 (gaps shape text) → fits shape text ≡ true
+
+pub all-settle : (shape text : List ℕ) → Both shape text → bitAnd (word (gaps shape text)) (mask shape) ≡ 0 → AllSettled shape text
+all-settle [] [] h e = record { gaps-le = tt; fit-if = λ n. refl }
+all-settle [] (b ∷ bs) h e = absurd (omega (arith, h .0))
+all-settle (s ∷ ss) [] h e = absurd (omega (arith, h .0))
+all-settle (s ∷ ss) (b ∷ bs) h e =
+    let hs = h .1 .0 .0 in
+    let hb = h .1 .1 .0 in
+    let z = no-part _ _ (sym (and-mask-gaps s b ss bs hs hb) ∙ e) in
+    let o = settle s b hs hb (z .1) in
+    let r = all-settle ss bs (rest-both s b ss bs h) (z .0) in
+    record {
+      gaps-le = (o .gap-le, r .gaps-le);
+      fit-if = λ n. ap₂ _&&_ (o .fits-if (n .0)) (r .fit-if (n .1));
+    }
+
+-- ---- numbers below 10, among those below 16
+
+nine-high : (x : ℕ) → x ≤ 9 → bitAnd (x + 6) 240 ≡ 0
+nine-high x h = high (x + 6) ∙ (let e : (x + 6) / 16 ≡ 0 = omega arith in ap (λ y. y % 16 * 16) e)
+
+high-nine : (x : ℕ) → x ≤ 15 → bitAnd (x + 6) 240 ≡ 0 → x ≤ 9
+high-nine x h e =
+    let l : (x + 6) / 16 < 16 = omega arith in
+    let z = low-of ((x + 6) / 16) l (sym (high (x + 6)) ∙ e) in
+    omega (arith, z)
+
+-- six more in each byte, and the high bits of each
+sixes-step :
+    (n x : ℕ) (v : ℕ) → x ≤ 15 →
+    bitAnd (v * 256 + x + word (replicate (suc n) 6)) (word (replicate (suc n) 240)) ≡ bitAnd (v + word (replicate n 6)) (word (replicate n 240)) * 256 + bitAnd (x + 6) 240
+sixes-step n x v h =
+    let r = word (replicate n 6) in
+    let e : v * 256 + x + (r * 256 + 6) ≡ (v + r) * 256 + (x + 6) = omega arith in
+    let l : x + 6 < 256 = omega arith in
+    ap (λ y. bitAnd y (word (replicate n 240) * 256 + 240)) e ∙ and-block 8 (v + r) (word (replicate n 240)) (x + 6) 240 l (lit< tt)
+
+pub nines-high : (l : List ℕ) (n : ℕ) → length l ≤ n → AllLe 9 l → bitAnd (word l + word (replicate n 6)) (word (replicate n 240)) ≡ 0
+nines-high [] zero h a = refl
+nines-high [] (suc n) h a = sixes-step n 0 0 (omega arith) ∙ ap₂ (λ x y. x * 256 + y) (nines-high [] n (omega arith) tt) (nine-high 0 (omega arith))
+nines-high (x ∷ l) zero h a = absurd (omega arith)
+nines-high (x ∷ l) (suc n) h a =
+    let b = a .0 in
+    sixes-step n x (word l) (omega arith) ∙ ap₂ (λ x y. x * 256 + y) (nines-high l n (omega arith) (a .1)) (nine-high x b)
+
+pub high-nines : (l : List ℕ) (n : ℕ) → length l ≤ n → AllLe 15 l → bitAnd (word l + word (replicate n 6)) (word (replicate n 240)) ≡ 0 → AllLe 9 l
+high-nines [] n h a e = tt
+high-nines (x ∷ l) zero h a e = absurd (omega arith)
+high-nines (x ∷ l) (suc n) h a e =
+    let z = no-part _ _ (sym (sixes-step n x (word l) (a .0)) ∙ e) in
+    (high-nine x (a .0) (z .1), high-nines l n (omega arith) (a .1) (z .0))
