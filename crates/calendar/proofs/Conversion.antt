@@ -24,6 +24,10 @@ made y m d hy hm hd =
     let r = toZ-pos w64 {n = d} (omega arith) in
     λ i. date (p i) (q i) (r i)
 
+-- the day of the month, counted from 1
+from-one : (r : ℕ) → (r + 5) / 5 ≡ r / 5 + 1
+from-one r = omega arith
+
 module _ (n j : ℕ) (h : n ≤ lastDay) (e : j ≡ newYear (dayOfMarchYear n)) (small : j ≤ 1) where
   year-fits : 100 * centuryOf n + yearOfCentury n + j < 2 ^ 32
   year-fits = omega arith
@@ -40,11 +44,12 @@ module _ (n j : ℕ) (h : n ≤ lastDay) (e : j ≡ newYear (dayOfMarchYear n)) 
 
   pub date-made :
       date (read (toZ w64 (100 * centuryOf n + yearOfCentury n + j) +ℤ baseYear)) (toZ w64 ((5 * dayOfMarchYear n + 461) / 153 - 12 * j))
-      (toZ w64 ((5 * dayOfMarchYear n + 461) % 153 / 5 + 1)) ≡ dateAfter n
+      (toZ w64 (((5 * dayOfMarchYear n + 461) % 153 + 5) / 5)) ≡ dateAfter n
   date-made =
-      made (100 * centuryOf n + yearOfCentury n + j) ((5 * dayOfMarchYear n + 461) / 153 - 12 * j)
-      ((5 * dayOfMarchYear n + 461) % 153 / 5 + 1) year-fits (omega arith) (omega arith)
-      ∙ sym (algorithm-3 n j e)
+      let y = 100 * centuryOf n + yearOfCentury n + j in
+      let m = (5 * dayOfMarchYear n + 461) / 153 - 12 * j in
+      let r = (5 * dayOfMarchYear n + 461) % 153 in
+      made y m ((r + 5) / 5) year-fits (omega arith) (omega arith) ∙ ap (public y m) (from-one r) ∙ sym (algorithm-3 n j e)
 
 -- algorithm 4 of source document 000, section 6, with the table of the days before each month
 early-sum : (y Y L B b d A C D : ℕ) → Y + 1 ≡ y → L + C ≡ A + D + 1 → C ≤ A → B ≡ b → 1 ≤ d → 365 * y + A - C + D + B + d ≡ 365 * y + L + b + (d - 1)

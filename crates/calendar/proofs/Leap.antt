@@ -1,9 +1,10 @@
 -- The leap rule on years counted from baseYear, and the number of leap years before a year.
-use Prim.Native.Nat.{ℕ, _+_, _-_, _/_, _%_, _≤_}
+use Prim.Native.Nat.{ℕ, _+_, _-_, _*_, _/_, _%_, _≤_}
 use mathlib.Core.Path.{_≡_, refl, ap, _∙_}
 use mathlib.Core.Bool.{Bool, true, false, cond, not, _&&_}
 use native.Mathlib.Decide.{ℕ-discrete}
 use native.Mathlib.Omega.{arith}
+use native.Mathlib.Nat.{mul-mod-right}
 use lib.Dec.{eqb}
 use lib.IntN.{pos, _+ℤ_}
 use borrow.Author.Tests.{eqb-true, eqb-false}
@@ -39,24 +40,28 @@ pub leap-is-zero : (y : ℕ) → (y % 4 ≡ 0 → (y % 100 ≡ 0) × (y % 400 �
 leap-is-zero y h =
     leap-cases (λ l. l ≡ 0) y (λ a. refl) (λ a b. absurd (b (h a .0))) (λ a b c. refl) (λ a b c. absurd (h a .1 c))
 
-century-quarter : (y : ℕ) → y % 400 ≡ 0 → y / 100 % 4 ≡ 0
-century-quarter y h = omega arith
+-- 25 and 4 divide a year only where 100 does, 25 and 16 only where 400 does
+by-100 : (y : ℕ) → y % 25 ≡ 0 → y % 4 ≡ 0 → y % 100 ≡ 0
+by-100 y h k = let p : y ≡ 100 * (y / 4 - 6 * (y / 25)) = omega arith in ap (λ y. y % 100) p ∙ mul-mod-right 100 _
 
--- 4 divides the year, or its century where 100 divides it
-module _ (y q : ℕ) (century : y % 100 ≡ 0 → q ≡ y / 100) (other : (y % 100 ≡ 0 → ⊥) → q ≡ y) where
-  pub by-century-one : q % 4 ≡ 0 → leapDay y ≡ 1
-  by-century-one h = go (ℕ-discrete (y % 100) 0)
-    where
-      go : Dec (y % 100 ≡ 0) → leapDay y ≡ 1
-      go (yes e) = let c = century e in leap-is-one y (omega arith) (λ k. omega arith)
-      go (no e) = let c = other e in leap-is-one y (omega arith) (λ k. absurd (e k))
+by-400 : (y : ℕ) → y % 25 ≡ 0 → y % 16 ≡ 0 → y % 400 ≡ 0
+by-400 y h k = let p : y ≡ 400 * (11 * (y / 25) - 7 * (y / 16)) = omega arith in ap (λ y. y % 400) p ∙ mul-mod-right 400 _
 
-  pub by-century-zero : (q % 4 ≡ 0 → ⊥) → leapDay y ≡ 0
-  by-century-zero h = go (ℕ-discrete (y % 100) 0)
+-- 4 divides the year, or 16 where 25 divides it
+module _ (y r : ℕ) (by-16 : y % 25 ≡ 0 → r ≡ y % 16) (by-4 : (y % 25 ≡ 0 → ⊥) → r ≡ y % 4) where
+  pub rest-zero : r ≡ 0 → leapDay y ≡ 1
+  rest-zero h = go (ℕ-discrete (y % 25) 0)
     where
-      go : Dec (y % 100 ≡ 0) → leapDay y ≡ 0
-      go (yes e) = let c = century e in leap-is-zero y (λ k. (e, λ i. h (ap (λ q. q % 4) c ∙ century-quarter y i)))
-      go (no e) = let c = other e in leap-is-zero y (λ k. absurd (h (omega arith)))
+      go : Dec (y % 25 ≡ 0) → leapDay y ≡ 1
+      go (yes e) = let p = by-16 e in leap-is-one y (omega arith) (λ k. by-400 y e (omega arith))
+      go (no e) = let p = by-4 e in leap-is-one y (omega arith) (λ k. omega arith)
+
+  pub rest-left : (r ≡ 0 → ⊥) → leapDay y ≡ 0
+  rest-left h = go (ℕ-discrete (y % 25) 0)
+    where
+      go : Dec (y % 25 ≡ 0) → leapDay y ≡ 0
+      go (yes e) = let p = by-16 e in leap-is-zero y (λ k. (by-100 y e k, λ i. omega arith))
+      go (no e) = let p = by-4 e in leap-is-zero y (λ k. omega arith)
 
 pub leap-flag : (y : ℕ) → eqb (leapDay y) 1 ≡ leapℕ y
 unfolding leapDay

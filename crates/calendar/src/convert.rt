@@ -9,7 +9,7 @@ ghost use Prim.Native.Nat.{_≤_, _+_};
 ghost use Rattle.calendar.specs.Gregorian.{dateAfter};
 ghost use Rattle.calendar.specs.Closed.{fromYear, toYear, newYear, cycle, lastDay, Valid, count};
 
-// The date n days after the first.
+// The date n days after the first. The day d is the paper's D + 1.
 pub fn date_after(n: u32) -> Date
     requires { ⌜ n ≤ lastDay ⌝ }
     ensures { λ r. ⌜ r ≡ dateAfter n ⌝ }
@@ -22,12 +22,12 @@ pub fn date_after(n: u32) -> Date
     let n_y = n_2 % 1461 / 4;
     let n_3 = 5 * n_y + 461;
     let m = n_3 / 153;
-    let d = n_3 % 153 / 5;
+    let d = (n_3 % 153 + 5) / 5;
     let j = new_year(n_y);
     Date {
         year: (100 * c + z + j) as i64 + BASE_YEAR,
         month: (m - 12 * j) as i64,
-        day: (d + 1) as i64,
+        day: d as i64,
     }
 }
 

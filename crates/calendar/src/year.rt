@@ -1,24 +1,25 @@
 // The leap rule and the days before each month, of years that are counted from BASE_YEAR, a multiple of 400.
 
 ghost use mathlib.Core.Path.{_≡_};
-ghost use Prim.Native.Nat.{_≤_, _%_, _/_};
+ghost use Prim.Native.Nat.{_≤_, _%_};
 ghost use Rattle.calendar.specs.Closed.{leapDay, before, beforeMarch};
 
 // Days before each month in a common year: document 01, "Calendar rules".
 const DAYS_BEFORE: [u16; 12] = [0, 31, 59, 90, 120, 151, 181, 212, 243, 273, 304, 334];
 
-// 1 in a leap year, else 0: 4 divides the year, or its century where 100 divides it.
+// 1 in a leap year, else 0: 4 divides the year, or 16 where 25 divides it, which is what 4, 100 and 400 come to.
 pub fn leap_day(y: u32) -> u32
     ensures { λ r. ⌜ (r ≡ leapDay y) × (r ≤ 1) ⌝ }
 {
-    if year_or_century(y) % 4 == 0 { 1 } else { 0 }
+    if leap_rest(y) == 0 { 1 } else { 0 }
 }
 
-fn year_or_century(y: u32) -> u32
-    ensures century { λ r. ⌜ (y % 100 ≡ 0 → r ≡ y / 100) ⌝ }
-    ensures year { λ r. ⌜ ((y % 100 ≡ 0 → ⊥) → r ≡ y) ⌝ }
+// What is left of the year after division by 4, or by 16 where 25 divides it.
+fn leap_rest(y: u32) -> u32
+    ensures by_16 { λ r. ⌜ (y % 25 ≡ 0 → r ≡ y % 16) ⌝ }
+    ensures by_4 { λ r. ⌜ ((y % 25 ≡ 0 → ⊥) → r ≡ y % 4) ⌝ }
 {
-    if y % 100 == 0 { y / 100 } else { y }
+    if y % 25 == 0 { y % 16 } else { y % 4 }
 }
 
 // The days before month m in a common year.

@@ -24,14 +24,17 @@ mul-n-3 c = search needs
 add-n-3 : tie.Need-add-n-3
 add-n-3 c = search needs
 
+add-d : tie.Need-add-d
+add-d c = search needs
+
 new-year-requires : tie.Need-new-year-requires
 new-year-requires c κs = search needs
 
-mul-t13 : tie.Need-mul-t13
-mul-t13 c = search needs
+mul-t12 : tie.Need-mul-t12
+mul-t12 c = search needs
 
-add-t12 : tie.Need-add-t12
-add-t12 c = search needs
+add-t13 : tie.Need-add-t13
+add-t13 c = search needs
 
 add-t14 : tie.Need-add-t14
 add-t14 c = search needs
@@ -51,11 +54,8 @@ sub-t18 c = month-subtracts (c .before .args .n) (c .new-year .result) (c .befor
 cast-t19 : tie.Need-cast-t19
 cast-t19 c = search needs
 
-add-t20 : tie.Need-add-t20
-add-t20 c = search needs
-
-cast-t21 : tie.Need-cast-t21
-cast-t21 c = search needs
+cast-t20 : tie.Need-cast-t20
+cast-t20 c = search needs
 
 returns : tie.Need-returns
 returns c = date-made (c .before .args .n) (c .new-year .result) (c .before .pre) (c .new-year .ensures .0) (c .new-year .ensures .1)
@@ -71,15 +71,15 @@ date-after-spec =
     add-n-2
     mul-n-3
     add-n-3
+    add-d
     new-year-requires
-    mul-t13
-    add-t12
+    mul-t12
+    add-t13
     add-t14
     cast-t15
     add-t16
     mul-t17
     sub-t18
     cast-t19
-    add-t20
-    cast-t21
+    cast-t20
     returns)
