@@ -39,8 +39,8 @@ test: test-dates test-c test-rust
 test-dates:
 	python3 tools/dates.py | cmp - crates/dates/stdout
 
-test-c: $(LIB) build/player
-	tests/c/run $(LIB)
+test-c: $(LIB) $(HARNESS) build/player
+	tests/c/run $(LIB) $(HARNESS)
 
 test-rust: $(LIB) $(HARNESS)
 	cd rust && cargo test --release --quiet --features harness

@@ -62,6 +62,7 @@ pub mod raw {
             answer: *mut i64,
             length: usize,
         );
+        pub fn harness_refusal_number(place: i64, answer: *mut i64, length: usize);
     }
 }
 
@@ -237,4 +238,9 @@ pub fn check_bound(q: Constants, bound: i64) -> Answer<()> {
         [2, refusal, n] => Answer::RefusedAt(refusal, n),
         other => panic!("not a claim's answer: {other:?}"),
     }
+}
+
+/// The number of the refusal at a place of the enum, counted from 0; `Refused(0)` where none stands.
+pub fn refusal_number(place: i64) -> Answer<i64> {
+    number(|answer, length| unsafe { raw::harness_refusal_number(place, answer, length) })
 }

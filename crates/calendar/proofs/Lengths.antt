@@ -13,7 +13,7 @@ use mir.Facts.{toZ-ofZ, toZ-pos}
 use Rattle.refusal.specs.Outcome.{value, refused}
 use Rattle.numbers.specs.Range.{outside, since, eqZ}
 use Rattle.numbers.proofs.Integers.{above, outside-no, add-since, since-le, eqZ-true}
-use Rattle.numbers.proofs.Machine.{read}
+use Rattle.numbers.proofs.Machine.{read, key-is}
 use Rattle.calendar.specs.Range.{firstYear, lastYear}
 use Rattle.calendar.specs.Gregorian.{monthLength}
 use Rattle.calendar.specs.Answers.{lastDayAnswer}
@@ -22,13 +22,9 @@ use Rattle.calendar.specs.Closed.{baseYear, leapDay, monthDays}
 use Rattle.calendar.proofs.Leap.{leap-le}
 use Rattle.calendar.proofs.Months.{months, length-le, length-public}
 
--- a key of the match is the month's bits
 module _ (month : ℤ) (f : SFits w64 month) where
-  pub month-is : (k : ℕ) → k < 2 ^ 63 → ofZ w64 month ≡ k → month ≡ pos k
-  month-is k small e = sym (toZ-ofZ f) ∙ ap (toZ w64) e ∙ toZ-pos w64 small
-
   pub at-key : (k : ℕ) → k < 2 ^ 63 → ofZ w64 month ≡ k → commonLength (pos k) ≡ commonLength month
-  at-key k small e = ap commonLength (sym (month-is k small e))
+  at-key k small e = ap commonLength (sym (key-is f k small e))
 
   pub no-key : ((k : ℕ) → 1 ≤ k → k ≤ 12 → ofZ w64 month ≡ k → ⊥) → refused 2 ≡ commonLength month
   unfolding commonLength
@@ -42,7 +38,7 @@ module _ (month : ℤ) (f : SFits w64 month) where
           absurd (none (1 + since (pos 1) month) (omega arith) (omega arith) (sym (ap (ofZ w64) (add-since (pos 1) month (t .0)))))
 
   pub in-february : (l : ℕ) → ofZ w64 month ≡ 2 → l ≡ cond (eqZ month (pos 2)) l 0
-  in-february l e = ap (λ m. cond (eqZ m (pos 2)) l 0) (sym (month-is 2 (lit< tt) e))
+  in-february l e = ap (λ m. cond (eqZ m (pos 2)) l 0) (sym (key-is f 2 (lit< tt) e))
 
   pub not-in-february : (l : ℕ) → (ofZ w64 month ≡ 2 → ⊥) → 0 ≡ cond (eqZ month (pos 2)) l 0
   not-in-february l none = go (eqZ month (pos 2)) refl

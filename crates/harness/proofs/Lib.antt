@@ -1,3 +1,4 @@
 pub mod Stores
 pub mod Fitting
 pub mod Answers
+pub mod Places

@@ -18,6 +18,7 @@
 //     harness_write_position(ms, out, answer)                              how many bytes
 //     harness_first_difference(a, b, d, m, c, k, t, end, answer)           1 and n, or 0
 //     harness_check_bound(a, b, d, m, c, k, t, bound, answer)              nothing more
+//     harness_refusal_number(place, answer)                                a number, by place in the enum
 
 ghost use mathlib.Core.Path.{_≡_};
 ghost use Rattle.calendar.specs.Answers.{daysAnswer, civilAnswer, weekdayAnswer, leapAnswer, lastDayAnswer, dayOfYearAnswer, addDaysAnswer};
@@ -28,8 +29,10 @@ ghost use Rattle.labels.specs.Webvtt.{positionLabel};
 ghost use Rattle.constants.specs.Answers.{searchAnswer, claimAnswer};
 ghost use Rattle.harness.specs.Stored.{stored};
 ghost use Rattle.harness.specs.Numbers.{numberNumbers, countNumbers, flagNumbers, dateNumbers, fieldsNumbers, searchNumbers, claimNumbers};
+ghost use Rattle.harness.specs.Refusals.{refusalAt};
 
 mod put;
+mod refusals;
 mod store;
 
 #[no_mangle]
@@ -180,4 +183,12 @@ pub extern "C" fn harness_check_bound(
     ensures { λ r. ⌜ now (answer .exit) ≡ stored (claimNumbers (claimAnswer a b d m c k t bound)) (now (answer .entry)) ⌝ }
 {
     put::claim(constants::check_bound(a, b, d, m, c, k, t, bound), answer)
+}
+
+// The number of the refusal that stands at `place`, counted from 0, in the enum `Refusal`; at any other place kind 1 with number 0.
+#[no_mangle]
+pub extern "C" fn harness_refusal_number(place: i64, answer: &mut [i64])
+    ensures { λ r. ⌜ now (answer .exit) ≡ stored (numberNumbers (refusalAt place)) (now (answer .entry)) ⌝ }
+{
+    put::listed(refusals::at(place), answer)
 }

@@ -1,5 +1,6 @@
 // The numbers of each crate's answers, stored into a lent slice.
 
+use super::refusals::Listed;
 use super::store;
 use calendar::DateAnswer;
 use calendar::FlagAnswer;
@@ -23,6 +24,7 @@ ghost use Rattle.labels.specs.Rfc3339.{readOutcome};
 ghost use Rattle.constants.specs.Answers.{searchOutcome, claimOutcome};
 ghost use Rattle.harness.specs.Stored.{stored};
 ghost use Rattle.harness.specs.Numbers.{numberNumbers, countNumbers, flagNumbers, dateNumbers, fieldsNumbers, searchNumbers, claimNumbers};
+ghost use Rattle.harness.specs.Refusals.{listedOutcome};
 ghost use Rattle.harness.specs.Fitting.{AllFit};
 
 pub fn calendar_number(n: calendar::NumberAnswer, answer: &mut [i64])
@@ -135,6 +137,16 @@ pub fn claim(c: ClaimAnswer, answer: &mut [i64])
         ClaimAnswer::Accepted => store::three(answer, 0, 0, 0),
         ClaimAnswer::Refused(why) => refused(why, answer),
         ClaimAnswer::RefusedAt(why, n) => refused_at(why, n as i64, answer),
+    }
+}
+
+// The refusal of a place as its number.
+pub fn listed(l: Listed, answer: &mut [i64])
+    ensures { λ r. ⌜ now (answer .exit) ≡ stored (numberNumbers (listedOutcome l)) (now (answer .entry)) ⌝ }
+{
+    match l {
+        Listed::At(why) => store::three(answer, 0, number_of(why), 0),
+        Listed::Nothing => store::three(answer, 1, 0, 0),
     }
 }
 

@@ -25,6 +25,10 @@ pos-fits h = record { sfits = h }
 pub cast-pos : (w : Width) {z : ℤ} (n : ℕ) → n < 2 ^ bits w → z ≡ pos n → T (nonNeg z) × Fits w (natAbs z)
 cast-pos w n h e = subst (λ z. T (nonNeg z) × Fits w (natAbs z)) (sym e) (tt, record { fits = h })
 
+-- a key of a match is the number's bits
+pub key-is : {z : ℤ} → SFits w64 z → (k : ℕ) → k < 2 ^ 63 → ofZ w64 z ≡ k → z ≡ pos k
+key-is f k small e = sym (toZ-ofZ f) ∙ ap (toZ w64) e ∙ toZ-pos w64 small
+
 -- what the two tests of a local say of its number
 module _ (first last : ℤ) {z : ℤ} (f : SFits w64 z) where
   lower : ltZ (read z) first ≡ ltZ z first
