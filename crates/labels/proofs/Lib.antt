@@ -2,10 +2,13 @@ pub mod Copy
 pub mod Words
 pub mod Cells
 pub mod Decimal
+pub mod OneByte
 pub mod Gaps
 pub mod Values
 pub mod ReadPairs
 pub mod Shapes
+pub mod ReadDate
+pub mod ReadTime
 pub mod Reading
 pub mod Spelling
 pub mod Positions

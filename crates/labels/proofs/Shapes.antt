@@ -1,14 +1,12 @@
 -- Texts of one shape.
-use Prim.Native.Nat.{ℕ, zero, suc, _+_, _/_, _%_, _≤_, _<_}
+use Prim.Native.Nat.{ℕ, zero, suc, _+_, _/_, _%_}
 use mathlib.Core.Path.{_≡_, refl, sym, ap, ap₂, _∙_}
 use mathlib.Core.Bool.{Bool, true, false, _&&_}
 use mathlib.Core.List.{List, [], _∷_, _++_}
-use native.Mathlib.Numerals.{add-one}
-use native.Mathlib.Omega.{arith}
 use borrow.Author.Tests.{eqb-true}
 use lib.Dec.{eqb}
-use lib.ListN.{length, getD, take, drop, replicate, drop-of-length-le, take-append-drop}
-use lib.Seq.{drop-cons, drop-drop}
+use lib.ListN.{length, take, drop, replicate, take-append-drop}
+use lib.Seq.{drop-drop}
 use Rattle.numbers.proofs.Integers.{no-both}
 use Rattle.labels.specs.Digits.{digits, number, isDigit, fitsOne, fits}
 use Rattle.labels.proofs.Decimal.{and-left, and-right, is-digit, allDigits, digits-number, length-digits}
@@ -21,29 +19,12 @@ and-assoc : (a b c : Bool) → a && (b && c) ≡ (a && b) && c
 and-assoc true b c = refl
 and-assoc false b c = refl
 
--- ---- the test, byte by byte
-
 -- a text that fits is as long as the shape
 pub uneven : (shape text : List ℕ) → (length shape ≡ length text → ⊥) → fits shape text ≡ false
 uneven [] [] h = absurd (h refl)
 uneven [] (b ∷ bs) h = refl
 uneven (s ∷ ss) [] h = refl
 uneven (s ∷ ss) (b ∷ bs) h = rw (uneven ss bs (λ e. h (ap suc e))) (and-no (fitsOne s b))
-
-module _ (shape text : List ℕ) (i : ℕ) (h : i < length shape) (l : length shape ≡ length text) where
-  both : fits (drop i shape) (drop i text) ≡ fitsOne (getD shape i 0) (getD text i 0) && fits (drop (suc i) shape) (drop (suc i) text)
-  both =
-      let h′ : i < length text = omega arith in
-      rw (drop-cons shape i 0, drop-cons text i 0)
-
-  pub next-fits : fitsOne (getD shape i 0) (getD text i 0) ≡ true → fits (drop i shape) (drop i text) ≡ fits (drop (i + 1) shape) (drop (i + 1) text)
-  next-fits e = rw (both, e, add-one)
-
-  pub no-fit : fitsOne (getD shape i 0) (getD text i 0) ≡ false → fits (drop i shape) (drop i text) ≡ false
-  no-fit e = rw (both, e)
-
-pub all-fit : (shape text : List ℕ) (i : ℕ) → length shape ≤ i → length text ≤ i → fits (drop i shape) (drop i text) ≡ true
-all-fit shape text i h k = rw (drop-of-length-le shape h, drop-of-length-le text k)
 
 -- ---- a shape of two parts
 

@@ -1,6 +1,7 @@
 use Prim.Native.Nat.{_+_, _*_}
 use Rattle.labels.specs.declared.rfc3339.CivilDate.the-variants.{Read}
-use Rattle.labels.proofs.Reading.{dateFront, dateBack, rest-is, no-front, no-back, date-values}
+use Rattle.labels.proofs.Reading.{rest-is}
+use Rattle.labels.proofs.ReadDate.{dateFront, dateBack, no-front, no-back, date-values}
 use Rattle.labels.proofs.ReadPairs.{values-read, values-malformed}
 use Rattle.labels.specs.Words.{readValues}
 use lib.Seq.{length-take-le}

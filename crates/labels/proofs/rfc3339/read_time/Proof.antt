@@ -1,5 +1,5 @@
 use Prim.Native.Nat.{ℕ, _+_, _-_}
-use Rattle.labels.proofs.Reading.{clock, TimeFits, decimals-part, no-time, time-values}
+use Rattle.labels.proofs.ReadTime.{clock, TimeFits, decimals-part, no-time, time-values}
 use Rattle.labels.proofs.ReadPairs.{values-read, values-malformed}
 use Rattle.labels.specs.declared.rfc3339.Time.the-variants.{Read}
 use Rattle.numbers.proofs.Integers.{no-both}
