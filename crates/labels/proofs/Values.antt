@@ -5,11 +5,13 @@ use mathlib.Core.Bool.{Bool, true, false, cond}
 use mathlib.Core.List.{List, [], _∷_}
 use native.Mathlib.Omega.{arith}
 use lib.Bits.{bitAnd, bitXor}
-use lib.ListN.{length}
+use lib.ListN.{length, getD}
+use mir.Syntax.{w8}
+use mir.Val.{Fits}
 use Rattle.labels.specs.Digits.{fits}
 use Rattle.labels.specs.Words.{word, mask, above, readValues}
 use Rattle.labels.specs.declared.digits.Values.the-variants.{Read, Malformed}
-use Rattle.labels.proofs.Words.{word-le}
+use Rattle.labels.proofs.Words.{bytes, word-le}
 use Rattle.labels.proofs.Gaps.{Both, gaps, word-gaps, values-le, AllFit, all-fit, AllSettled, all-settle, nines-high, high-nines}
 
 gaps-length : (shape text : List ℕ) → length (gaps shape text) ≤ length shape
@@ -17,12 +19,18 @@ gaps-length [] text = omega arith
 gaps-length (s ∷ ss) [] = omega arith
 gaps-length (s ∷ ss) (b ∷ bs) = let h = gaps-length ss bs in omega arith
 
-module _ (shape text : List ℕ) (both : Both shape text) (short : length shape ≤ 8) {a b m : ℕ} (a-is : a ≡ word text) (b-is : b ≡ word shape) (m-is : m ≡ mask shape) where
+-- the text and its shape, as the code knows them, and the three numbers that it makes of them
+module _
+    (shape text : List ℕ) (sizes : (length shape ≡ length text) × (length shape ≤ 8)) (shape-bytes : (i : ℕ) → Fits w8 (getD shape i 0))
+    (text-bytes : (i : ℕ) → Fits w8 (getD text i 0)) {a b m : ℕ} (a-is : a ≡ word text) (b-is : b ≡ word shape) (m-is : m ≡ mask shape) where
+  both : Both shape text
+  both = (sizes .0, (bytes shape shape-bytes, bytes text text-bytes))
+
   as-gaps : bitXor a b ≡ word (gaps shape text)
   as-gaps = ap₂ bitXor a-is b-is ∙ word-gaps shape text both
 
   few : length (gaps shape text) ≤ 8
-  few = omega (arith, gaps-length shape text)
+  few = omega (arith, gaps-length shape text, sizes .1)
 
   unless : (fits shape text ≡ true → ⊥) → Malformed ≡ readValues shape text
   unless never = go (fits shape text) refl
