@@ -11,10 +11,10 @@ use mir.Val.{SFits, toZ}
 use mir.Facts.{toZ-pos}
 use Rattle.numbers.proofs.Machine.{read, add-first, add-first-is}
 use Rattle.calendar.specs.Gregorian.{date, dateAfter}
-use Rattle.calendar.specs.Closed.{fromYear, baseYear, lastDay, leapDay, leaps, start, before, Valid, count, public, newYear, beforeMarch}
+use Rattle.calendar.specs.Closed.{fromYear, baseYear, lastDay, leapDay, leaps, start, before, Valid, count, public, newYear, fromMarch, beforeMarch}
 use Rattle.calendar.proofs.Leap.{leaps-step, leaps-next}
 use Rattle.calendar.proofs.Months.{before-early, before-late}
-use Rattle.calendar.proofs.March.{centuryOf, yearOfCentury, dayOfMarchYear, algorithm-3}
+use Rattle.calendar.proofs.March.{centuryOf, dayOfCentury, yearOfCentury, dayOfMarchYear, century-sum, algorithm-3}
 
 -- a date of natural numbers as the machine makes it
 made : (y m d : ℕ) → y < 2 ^ 32 → m < 2 ^ 32 → d < 2 ^ 32 → date (read (toZ w64 y +ℤ baseYear)) (toZ w64 m) (toZ w64 d) ≡ public y m d
@@ -24,32 +24,66 @@ made y m d hy hm hd =
     let r = toZ-pos w64 {n = d} (omega arith) in
     λ i. date (p i) (q i) (r i)
 
--- the day of the month, counted from 1
-from-one : (r : ℕ) → (r + 5) / 5 ≡ r / 5 + 1
-from-one r = omega arith
+-- the day as if every fourth year were leap, and the year that begins in March and its day as the code takes them from it
+abbrev pub regular : ℕ → ℕ
+regular n = n + 146037 + centuryOf n - centuryOf n / 4
 
-module _ (n j : ℕ) (h : n ≤ lastDay) (e : j ≡ newYear (dayOfMarchYear n)) (small : j ≤ 1) where
-  year-fits : 100 * centuryOf n + yearOfCentury n + j < 2 ^ 32
+abbrev pub marchYear : ℕ → ℕ
+marchYear n = (4 * regular n + 3) / 1461
+
+abbrev pub marchDay : ℕ → ℕ
+marchDay n = regular n - 1461 * marchYear n / 4
+
+regular-is : (n : ℕ) → regular n ≡ 36525 * centuryOf n + dayOfCentury n
+regular-is n = omega (arith, century-sum (n + 146037))
+
+year-of : (w C R : ℕ) → w ≡ 36525 * C + R → (4 * w + 3) / 1461 ≡ 100 * C + (4 * R + 3) / 1461
+year-of w C R e = omega arith
+
+rest-of : (w C R : ℕ) → w ≡ 36525 * C + R → (4 * w + 3) % 1461 ≡ (4 * R + 3) % 1461
+rest-of w C R e = omega (arith, year-of w C R e)
+
+day-of : (w : ℕ) → w - 1461 * ((4 * w + 3) / 1461) / 4 ≡ (4 * w + 3) % 1461 / 4
+day-of w = omega arith
+
+pub same-year : (n : ℕ) → marchYear n ≡ 100 * centuryOf n + yearOfCentury n
+same-year n = year-of (regular n) (centuryOf n) (dayOfCentury n) (regular-is n)
+
+pub same-day : (n : ℕ) → marchDay n ≡ dayOfMarchYear n
+same-day n = day-of (regular n) ∙ ap (λ r. r / 4) (rest-of (regular n) (centuryOf n) (dayOfCentury n) (regular-is n))
+
+-- the day of the month, counted from 1
+day-from-one : (k : ℕ) → k + 1 - fromMarch ((5 * k + 461) / 153) ≡ (5 * k + 461) % 153 / 5 + 1
+day-from-one k = omega arith
+
+module _ (n j : ℕ) (h : n ≤ lastDay) (e : j ≡ newYear (marchDay n)) (small : j ≤ 1) where
+  day-small : marchDay n ≤ 365
+  day-small = omega (arith, same-day n)
+
+  year-fits : marchYear n + j < 2 ^ 32
   year-fits = omega arith
 
-  pub year-adds : SFits w64 (toZ w64 (100 * centuryOf n + yearOfCentury n + j) +ℤ baseYear)
-  year-adds = let l = year-fits in add-first baseYear (100 * centuryOf n + yearOfCentury n + j) (omega arith)
+  pub year-adds : SFits w64 (toZ w64 (marchYear n + j) +ℤ baseYear)
+  year-adds = let l = year-fits in add-first baseYear (marchYear n + j) (omega arith)
 
-  pub month-subtracts : 12 * j ≤ (5 * dayOfMarchYear n + 461) / 153
-  month-subtracts = go (decLt (dayOfMarchYear n) 306)
+  pub month-subtracts : 12 * j ≤ (5 * marchDay n + 461) / 153
+  month-subtracts = go (decLt (marchDay n) 306)
     where
-      go : Dec (dayOfMarchYear n < 306) → 12 * j ≤ (5 * dayOfMarchYear n + 461) / 153
-      go (yes l) = let z : j ≡ 0 = e ∙ ap (λ t. cond t 0 1) (lt-ltb (dayOfMarchYear n) 306 l) in omega arith
+      go : Dec (marchDay n < 306) → 12 * j ≤ (5 * marchDay n + 461) / 153
+      go (yes l) = let z : j ≡ 0 = e ∙ ap (λ t. cond t 0 1) (lt-ltb (marchDay n) 306 l) in omega arith
       go (no l) = omega arith
 
   pub date-made :
-      date (read (toZ w64 (100 * centuryOf n + yearOfCentury n + j) +ℤ baseYear)) (toZ w64 ((5 * dayOfMarchYear n + 461) / 153 - 12 * j))
-      (toZ w64 (((5 * dayOfMarchYear n + 461) % 153 + 5) / 5)) ≡ dateAfter n
+      date (read (toZ w64 (marchYear n + j) +ℤ baseYear)) (toZ w64 ((5 * marchDay n + 461) / 153 - 12 * j))
+      (toZ w64 (marchDay n + 1 - fromMarch ((5 * marchDay n + 461) / 153))) ≡ dateAfter n
   date-made =
-      let y = 100 * centuryOf n + yearOfCentury n + j in
-      let m = (5 * dayOfMarchYear n + 461) / 153 - 12 * j in
-      let r = (5 * dayOfMarchYear n + 461) % 153 in
-      made y m ((r + 5) / 5) year-fits (omega arith) (omega arith) ∙ ap (public y m) (from-one r) ∙ sym (algorithm-3 n j e)
+      let k = marchDay n in
+      let y = marchYear n + j in
+      let m = (5 * k + 461) / 153 - 12 * j in
+      let l = day-small in
+      made y m (k + 1 - fromMarch ((5 * k + 461) / 153)) year-fits (omega arith) (omega arith)
+      ∙ (λ i. public (same-year n i + j) ((5 * same-day n i + 461) / 153 - 12 * j) (day-from-one (same-day n i) i))
+      ∙ sym (algorithm-3 n j (e ∙ ap newYear (same-day n)))
 
 -- algorithm 4 of source document 000, section 6, with the table of the days before each month
 early-sum : (y Y L B b d A C D : ℕ) → Y + 1 ≡ y → L + C ≡ A + D + 1 → C ≤ A → B ≡ b → 1 ≤ d → 365 * y + A - C + D + B + d ≡ 365 * y + L + b + (d - 1)

@@ -19,7 +19,7 @@ record Century (z C R : ℕ) : Type 0 where
   most : R ≤ 36524
   full : R ≡ 36524 → C % 4 ≡ 3
 
-century-sum : (z : ℕ) → z ≡ 36524 * ((4 * z + 3) / 146097) + (4 * z + 3) / 146097 / 4 + (4 * z + 3) % 146097 / 4
+pub century-sum : (z : ℕ) → z ≡ 36524 * ((4 * z + 3) / 146097) + (4 * z + 3) / 146097 / 4 + (4 * z + 3) % 146097 / 4
 century-sum z = omega arith
 
 century : (z : ℕ) → Century z ((4 * z + 3) / 146097) ((4 * z + 3) % 146097 / 4)

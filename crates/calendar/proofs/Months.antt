@@ -11,7 +11,7 @@ use lib.IntN.{pos, _+ℤ_}
 use lib.ListN.{getD, take}
 use Rattle.calendar.specs.Gregorian.{leapYear, monthLengths, monthLength}
 use Rattle.calendar.specs.Count.{sum}
-use Rattle.calendar.specs.Closed.{baseYear, leapℕ, leapDay, monthDays, before}
+use Rattle.calendar.specs.Closed.{baseYear, leapℕ, leapDay, monthDays, before, fromMarch}
 use Rattle.calendar.proofs.Leap.{leap-public}
 
 -- P holds of 1 to n
@@ -101,6 +101,16 @@ days-before = 0 ∷ 31 ∷ 59 ∷ 90 ∷ 120 ∷ 151 ∷ 181 ∷ 212 ∷ 243 ∷
 pub table-rule : (m : ℕ) → 1 ≤ m → m ≤ 12 → (getD days-before (m - 1) 0 ≡ before 0 m) × (before 0 m ≤ 334)
 unfolding days-before before monthDays
 table-rule = months (λ m. (getD days-before (m - 1) 0 ≡ before 0 m) × (before 0 m ≤ 334)) (omega arith)
+
+-- the table of the days from 1 March to each month, and its rule
+unfoldable pub days-from-march : List ℕ
+days-from-march = 0 ∷ 31 ∷ 61 ∷ 92 ∷ 122 ∷ 153 ∷ 184 ∷ 214 ∷ 245 ∷ 275 ∷ 306 ∷ 337 ∷ []
+
+pub march-rule : (m : ℕ) → 3 ≤ m → m ≤ 14 → (getD days-from-march (m - 3) 0 ≡ fromMarch m) × (fromMarch m ≤ 337)
+unfolding days-from-march
+march-rule m lo hi =
+    subst (λ m. (getD days-from-march (m - 3) 0 ≡ fromMarch m) × (fromMarch m ≤ 337)) (omega arith)
+    (months (λ i. (getD days-from-march (i + 2 - 3) 0 ≡ fromMarch (i + 2)) × (fromMarch (i + 2) ≤ 337)) (omega arith) (m - 2) (omega arith) (omega arith))
 
 -- the leap day counts from March on
 pub before-early : (l m : ℕ) → 1 ≤ m → m < 3 → before l m ≡ before 0 m

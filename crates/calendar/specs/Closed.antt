@@ -76,6 +76,10 @@ public y m d = date (baseYear +ℤ pos y) (pos m) (pos d)
 abbrev pub newYear : ℕ → ℕ
 newYear k = cond (ltb k 306) 0 1
 
+-- the days from 1 March to the first of month m, where 13 and 14 are January and February: equation (10) of source document 000
+abbrev pub fromMarch : ℕ → ℕ
+fromMarch m = (153 * m - 457) / 5
+
 -- 1 in January and February, else 0
 abbrev pub beforeMarch : ℕ → ℕ
 beforeMarch m = cond (ltb m 3) 1 0

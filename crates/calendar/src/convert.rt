@@ -9,25 +9,23 @@ ghost use Prim.Native.Nat.{_≤_, _+_};
 ghost use Rattle.calendar.specs.Gregorian.{dateAfter};
 ghost use Rattle.calendar.specs.Closed.{fromYear, toYear, newYear, cycle, lastDay, Valid, count};
 
-// The date n days after the first. The day d is the paper's D + 1.
+// The date n days after the first: algorithm 3. Where the paper takes the day of the century, the leap days that three in four
+// centuries lack are added instead, so that every fourth year is leap, and the year is found as in algorithm 1.
 pub fn date_after(n: u32) -> Date
     requires { ⌜ n ≤ lastDay ⌝ }
     ensures { λ r. ⌜ r ≡ dateAfter n ⌝ }
 {
-    let n_1 = 4 * (n + 146037) + 3;
-    let c = n_1 / 146097;
-    let n_c = n_1 % 146097 / 4;
-    let n_2 = 4 * n_c + 3;
-    let z = n_2 / 1461;
-    let n_y = n_2 % 1461 / 4;
-    let n_3 = 5 * n_y + 461;
-    let m = n_3 / 153;
-    let d = (n_3 % 153 + 5) / 5;
+    let n_0 = n + 146037;
+    let c = (4 * n_0 + 3) / 146097;
+    let regular = n_0 + c - c / 4;
+    let y = (4 * regular + 3) / 1461;
+    let n_y = regular - 1461 * y / 4;
+    let m = (5 * n_y + 461) / 153;
     let j = new_year(n_y);
     Date {
-        year: (100 * c + z + j) as i64 + BASE_YEAR,
+        year: (y + j) as i64 + BASE_YEAR,
         month: (m - 12 * j) as i64,
-        day: d as i64,
+        day: (n_y + 1 - year::days_from_march(m)) as i64,
     }
 }
 

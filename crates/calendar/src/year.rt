@@ -2,10 +2,13 @@
 
 ghost use mathlib.Core.Path.{_≡_};
 ghost use Prim.Native.Nat.{_≤_, _%_};
-ghost use Rattle.calendar.specs.Closed.{leapDay, before, beforeMarch};
+ghost use Rattle.calendar.specs.Closed.{leapDay, before, fromMarch, beforeMarch};
 
 // Days before each month in a common year: document 01, "Calendar rules".
 const DAYS_BEFORE: [u16; 12] = [0, 31, 59, 90, 120, 151, 181, 212, 243, 273, 304, 334];
+
+// Days from 1 March to the first of each month, March to the February after it.
+const DAYS_FROM_MARCH: [u16; 12] = [0, 31, 61, 92, 122, 153, 184, 214, 245, 275, 306, 337];
 
 // 1 in a leap year, else 0: 4 divides the year, or 16 where 25 divides it, which is what 4, 100 and 400 come to.
 pub fn leap_day(y: u32) -> u32
@@ -29,6 +32,15 @@ pub fn days_before(m: u32) -> u32
 {
     let at = (m - 1) as usize;
     DAYS_BEFORE[at] as u32
+}
+
+// The days from 1 March to the first of month m, where 13 and 14 are the January and February after it.
+pub fn days_from_march(m: u32) -> u32
+    requires { ⌜ (3 ≤ m) × (m ≤ 14) ⌝ }
+    ensures { λ r. ⌜ r ≡ fromMarch m ⌝ }
+{
+    let at = (m - 3) as usize;
+    DAYS_FROM_MARCH[at] as u32
 }
 
 // 1 in January and February, else 0.
