@@ -25,7 +25,7 @@ use Rattle.instant.specs.declared.Fields.{Fields}
 use Rattle.instant.proofs.Times as times
 use Rattle.instant.proofs.Joined.{join-accepted}
 use Rattle.instant.proofs.Laws.{split-join}
-use Rattle.labels.specs.Rfc3339.{dateText, timeText, labelText}
+use Rattle.labels.specs.Rfc3339.{decimals, dateText, timeText, labelText}
 use Rattle.labels.specs.Pairs.{Narrow, NarrowFields, spelledText}
 
 -- an unsigned number as a signed one
@@ -95,4 +95,4 @@ module _ (f : Fields) (n : NarrowFields f) where
       let m = abs-read 99 (lit< tt) (f .minute) (n .minute-within) in
       let s = abs-read 99 (lit< tt) (f .second) (n .second-within) in
       let k = abs-read 999 (lit< tt) (f .millisecond) (n .millisecond-within) in
-      (λ i. dateText (y i) (o i) (d i) ++ timeText 3 (h i) (m i) (s i) (k i))
+      (λ i. dateText (y i) (o i) (d i) ++ timeText decimals (h i) (m i) (s i) (k i))

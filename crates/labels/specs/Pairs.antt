@@ -7,7 +7,7 @@ use mathlib.Core.List.{List, _∷_, _++_}
 use Rattle.numbers.specs.Range.{outside}
 use Rattle.instant.specs.declared.Fields.{Fields}
 use Rattle.labels.specs.Digits.{digits, numberAt, fits}
-use Rattle.labels.specs.Rfc3339.{dateText, timeText, dateShape, timeShape}
+use Rattle.labels.specs.Rfc3339.{decimals, dateText, timeText, dateShape, timeShape}
 use Rattle.labels.specs.declared.rfc3339.CivilDate.{CivilDate}
 use Rattle.labels.specs.declared.rfc3339.CivilDate.the-variants as C
 use Rattle.labels.specs.declared.rfc3339.Time.{Time}
@@ -38,7 +38,7 @@ pub record NarrowFields (f : Fields) : Type 0 where
   pub millisecond-within : outside (pos 0) (pos 999) (f .millisecond) ≡ false
 
 abbrev pub spelledText : (year month day hour minute second millisecond : ℕ) → List ℕ
-spelledText year month day hour minute second millisecond = dateText year month day ++ timeText 3 hour minute second millisecond
+spelledText year month day hour minute second millisecond = dateText year month day ++ timeText decimals hour minute second millisecond
 
 -- the date in front
 abbrev pub readDate : List ℕ → CivilDate

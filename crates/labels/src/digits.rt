@@ -10,6 +10,11 @@ ghost use Rattle.labels.specs.Words.{word, byteOf, maskOne, mask, readVa
 // The byte of the digit 0.
 pub const ZERO: u32 = 48;
 
+// The marks that both labels have.
+pub const COLON: u8 = b':';
+
+pub const POINT: u8 = b'.';
+
 // Four digits of a number. 103 / 1024 of numbers below 100 that stand apart in one number are the tens of each.
 pub fn four(n: u32) -> [u8; 4]
     requires { ⌜ n < 10000 ⌝ }

@@ -3,6 +3,8 @@
 use crate::WriteAnswer;
 use crate::buffer;
 use crate::digits;
+use crate::digits::COLON;
+use crate::digits::POINT;
 use crate::digits::Values;
 use crate::digits::ZERO;
 use instant::Fields;
@@ -16,6 +18,20 @@ ghost use Rattle.instant.specs.Answers.{numberOutcome};
 ghost use Rattle.labels.specs.Written.{writeOutcome, writeAnswer, writtenBuffer};
 ghost use Rattle.labels.specs.Rfc3339.{labelText, instantLabel, readOutcome, readAnswer};
 ghost use Rattle.labels.specs.Pairs.{Narrow, NarrowFields, spelledText, readDate, readTime};
+
+// The marks, beside colon and point.
+const DASH: u8 = b'-';
+
+const T: u8 = b'T';
+
+const Z: u8 = b'Z';
+
+// The shapes of `YYYY-MM-`, `DD` and `HH:MM:SS`.
+const TO_MONTH: [u8; 8] = [b'0', b'0', b'0', b'0', DASH, b'0', b'0', DASH];
+
+const DAY: [u8; 2] = [b'0', b'0'];
+
+const CLOCK: [u8; 8] = [b'0', b'0', COLON, b'0', b'0', COLON, b'0', b'0'];
 
 // How many decimals the seconds have, and how many bytes a label has.
 const DECIMALS: usize = 3;
@@ -74,14 +90,14 @@ fn spelled(
     ensures { λ r. ⌜ r ≡ spelledText year month day hour minute second millisecond ⌝ }
 {
     let year = digits::four(year);
-    let to_hour = digits::three_pairs(month, b'-', day, b'T', hour);
-    let to_decimals = digits::three_pairs(minute, b':', second, b'.', millisecond / 10);
+    let to_hour = digits::three_pairs(month, DASH, day, T, hour);
+    let to_decimals = digits::three_pairs(minute, COLON, second, POINT, millisecond / 10);
     [
         year[0],
         year[1],
         year[2],
         year[3],
-        b'-',
+        DASH,
         to_hour[0],
         to_hour[1],
         to_hour[2],
@@ -90,7 +106,7 @@ fn spelled(
         to_hour[5],
         to_hour[6],
         to_hour[7],
-        b':',
+        COLON,
         to_decimals[0],
         to_decimals[1],
         to_decimals[2],
@@ -100,7 +116,7 @@ fn spelled(
         to_decimals[6],
         to_decimals[7],
         (ZERO + millisecond % 10) as u8,
-        b'Z',
+        Z,
     ]
 }
 
@@ -148,8 +164,8 @@ fn read_date(part: &[u8]) -> CivilDate
     requires { ⌜ length (now part) ≡ 10 ⌝ }
     ensures { λ r. ⌜ r ≡ readDate (now (part .entry)) ⌝ }
 {
-    match digits::read_values(b"0000-00-", &part[..8]) {
-        Values::Read(front) => match digits::read_values(b"00", &part[8..]) {
+    match digits::read_values(&TO_MONTH, &part[..8]) {
+        Values::Read(front) => match digits::read_values(&DAY, &part[8..]) {
             Values::Read(back) => CivilDate::Read(
                 100 * digits::pair(front, 0) + digits::pair(front, 2),
                 digits::pair(front, 5),
@@ -173,17 +189,17 @@ fn read_time(part: &[u8], decimals: usize) -> Time
     ensures { λ r. ⌜ r ≡ readTime decimals (now (part .entry)) ⌝ }
 {
     let end = 10 + decimals;
-    if part[0] != b'T' {
+    if part[0] != T {
         return Time::Malformed;
     }
-    if part[9] != b'.' {
+    if part[9] != POINT {
         return Time::Malformed;
     }
-    if part[end] != b'Z' {
+    if part[end] != Z {
         return Time::Malformed;
     }
     let zeros = [b'0'; 6];
-    match digits::read_values(b"00:00:00", &part[1..9]) {
+    match digits::read_values(&CLOCK, &part[1..9]) {
         Values::Read(clock) => match digits::read_values(&zeros[..decimals], &part[10..end]) {
             Values::Read(fraction) => Time::Read(
                 digits::pair(clock, 0),

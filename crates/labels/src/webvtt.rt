@@ -3,6 +3,8 @@
 use crate::WriteAnswer;
 use crate::buffer;
 use crate::digits;
+use crate::digits::COLON;
+use crate::digits::POINT;
 use crate::digits::ZERO;
 use refusal::Refusal;
 ghost use mathlib.Core.Path.{_≡_};
@@ -57,9 +59,9 @@ fn shortest(hours: u32, rest: u32) -> [u8; 12]
     let seconds = rest / MS_PER_SECOND;
     let clock = digits::three_pairs(
         hours,
-        b':',
+        COLON,
         seconds / SECONDS_PER_MINUTE,
-        b':',
+        COLON,
         seconds % SECONDS_PER_MINUTE,
     );
     let ms = digits::four(rest % MS_PER_SECOND);
@@ -72,7 +74,7 @@ fn shortest(hours: u32, rest: u32) -> [u8; 12]
         clock[5],
         clock[6],
         clock[7],
-        b'.',
+        POINT,
         ms[1],
         ms[2],
         ms[3],
@@ -89,9 +91,9 @@ fn widest(hours: u32, rest: u32) -> [u8; 15]
     let last_hours = digits::four(hours % 10000);
     let to_decimals = digits::three_pairs(
         seconds / SECONDS_PER_MINUTE,
-        b':',
+        COLON,
         seconds % SECONDS_PER_MINUTE,
-        b'.',
+        POINT,
         ms / 10,
     );
     [
@@ -100,7 +102,7 @@ fn widest(hours: u32, rest: u32) -> [u8; 15]
         last_hours[1],
         last_hours[2],
         last_hours[3],
-        b':',
+        COLON,
         to_decimals[0],
         to_decimals[1],
         to_decimals[2],
