@@ -39,7 +39,7 @@ mod store;
 pub extern "C" fn harness_days_from_civil(year: i64, month: i64, day: i64, answer: &mut [i64])
     ensures { λ r. ⌜ now (answer .exit) ≡ stored (numberNumbers (daysAnswer year month day)) (now (answer .entry)) ⌝ }
 {
-    put::calendar_number(calendar::days_from_civil(year, month, day), answer)
+    put::number(calendar::days_from_civil(year, month, day), answer)
 }
 
 #[no_mangle]
@@ -53,7 +53,7 @@ pub extern "C" fn harness_civil_from_days(days: i64, answer: &mut [i64])
 pub extern "C" fn harness_weekday_from_days(days: i64, answer: &mut [i64])
     ensures { λ r. ⌜ now (answer .exit) ≡ stored (numberNumbers (weekdayAnswer days)) (now (answer .entry)) ⌝ }
 {
-    put::calendar_number(calendar::weekday_from_days(days), answer)
+    put::number(calendar::weekday_from_days(days), answer)
 }
 
 #[no_mangle]
@@ -67,14 +67,14 @@ pub extern "C" fn harness_is_leap(year: i64, answer: &mut [i64])
 pub extern "C" fn harness_last_day_of_month(year: i64, month: i64, answer: &mut [i64])
     ensures { λ r. ⌜ now (answer .exit) ≡ stored (numberNumbers (lastDayAnswer year month)) (now (answer .entry)) ⌝ }
 {
-    put::calendar_number(calendar::last_day_of_month(year, month), answer)
+    put::number(calendar::last_day_of_month(year, month), answer)
 }
 
 #[no_mangle]
 pub extern "C" fn harness_day_of_year(year: i64, month: i64, day: i64, answer: &mut [i64])
     ensures { λ r. ⌜ now (answer .exit) ≡ stored (numberNumbers (dayOfYearAnswer year month day)) (now (answer .entry)) ⌝ }
 {
-    put::calendar_number(calendar::day_of_year(year, month, day), answer)
+    put::number(calendar::day_of_year(year, month, day), answer)
 }
 
 #[no_mangle]
@@ -88,7 +88,7 @@ pub extern "C" fn harness_add_days(year: i64, month: i64, day: i64, days: i64, a
 pub extern "C" fn harness_day_of_instant(ms: i64, answer: &mut [i64])
     ensures { λ r. ⌜ now (answer .exit) ≡ stored (numberNumbers (dayAnswer ms)) (now (answer .entry)) ⌝ }
 {
-    put::instant_number(instant::day_of_instant(ms), answer)
+    put::number(instant::day_of_instant(ms), answer)
 }
 
 #[no_mangle]
@@ -111,7 +111,7 @@ pub extern "C" fn harness_join_instant(
 )
     ensures { λ r. ⌜ now (answer .exit) ≡ stored (numberNumbers (joinAnswer year month day hour minute second millisecond)) (now (answer .entry)) ⌝ }
 {
-    put::instant_number(
+    put::number(
         instant::join_instant(year, month, day, hour, minute, second, millisecond),
         answer,
     )
@@ -137,7 +137,7 @@ pub extern "C" fn harness_write_instant(ms: i64, out: &mut [u8], answer: &mut [i
 pub extern "C" fn harness_read_instant(label: &[u8], answer: &mut [i64])
     ensures { λ r. ⌜ now (answer .exit) ≡ stored (numberNumbers (readAnswer (now (label .entry)))) (now (answer .entry)) ⌝ }
 {
-    put::read_number(labels::rfc3339::read_instant(label), answer)
+    put::number(labels::rfc3339::read_instant(label), answer)
 }
 
 #[no_mangle]

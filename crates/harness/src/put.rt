@@ -4,35 +4,33 @@ use super::refusals::Listed;
 use super::store;
 use calendar::DateAnswer;
 use calendar::FlagAnswer;
+use calendar::NumberAnswer;
 use constants::ClaimAnswer;
 use constants::SearchAnswer;
 use instant::FieldsAnswer;
 use instant::IndexAnswer;
 use labels::WriteAnswer;
-use labels::rfc3339::ReadAnswer;
 use refusal::Refusal;
 ghost use mathlib.Core.Path.{_≡_};
 ghost use mathlib.Core.Bool.{cond};
 ghost use mathlib.Core.List.{[], _∷_};
 ghost use lib.IntN.{pos};
 ghost use Rattle.refusal.specs.Numbers.{refusalNumber};
-ghost use Rattle.calendar.specs.Answers as calendar;
-ghost use Rattle.calendar.specs.Answers.{dateOutcome, flagOutcome};
-ghost use Rattle.instant.specs.Answers.{numberOutcome, fieldsOutcome, indexOutcome};
+ghost use Rattle.calendar.specs.Answers.{numberOutcome, dateOutcome, flagOutcome};
+ghost use Rattle.instant.specs.Answers.{fieldsOutcome, indexOutcome};
 ghost use Rattle.labels.specs.Written.{writeOutcome};
-ghost use Rattle.labels.specs.Rfc3339.{readOutcome};
 ghost use Rattle.constants.specs.Answers.{searchOutcome, claimOutcome};
 ghost use Rattle.harness.specs.Stored.{stored};
 ghost use Rattle.harness.specs.Numbers.{numberNumbers, countNumbers, flagNumbers, dateNumbers, fieldsNumbers, searchNumbers, claimNumbers};
 ghost use Rattle.harness.specs.Refusals.{listedOutcome};
 ghost use Rattle.harness.specs.Fitting.{AllFit};
 
-pub fn calendar_number(n: calendar::NumberAnswer, answer: &mut [i64])
-    ensures { λ r. ⌜ now (answer .exit) ≡ stored (numberNumbers (calendar.numberOutcome n)) (now (answer .entry)) ⌝ }
+pub fn number(n: NumberAnswer, answer: &mut [i64])
+    ensures { λ r. ⌜ now (answer .exit) ≡ stored (numberNumbers (numberOutcome n)) (now (answer .entry)) ⌝ }
 {
     match n {
-        calendar::NumberAnswer::Value(n) => store::three(answer, 0, n, 0),
-        calendar::NumberAnswer::Refused(why) => refused(why, answer),
+        NumberAnswer::Value(n) => store::three(answer, 0, n, 0),
+        NumberAnswer::Refused(why) => refused(why, answer),
     }
 }
 
@@ -57,15 +55,6 @@ pub fn date(d: DateAnswer, answer: &mut [i64])
     match d {
         DateAnswer::Value(d) => store::four(answer, 0, d.year, d.month, d.day),
         DateAnswer::Refused(why) => store::four(answer, 1, number_of(why), 0, 0),
-    }
-}
-
-pub fn instant_number(n: instant::NumberAnswer, answer: &mut [i64])
-    ensures { λ r. ⌜ now (answer .exit) ≡ stored (numberNumbers (numberOutcome n)) (now (answer .entry)) ⌝ }
-{
-    match n {
-        instant::NumberAnswer::Value(n) => store::three(answer, 0, n, 0),
-        instant::NumberAnswer::Refused(why) => refused(why, answer),
     }
 }
 
@@ -106,15 +95,6 @@ pub fn written(w: WriteAnswer, answer: &mut [i64])
     match w {
         WriteAnswer::Written(n) => store::three(answer, 0, n as i64, 0),
         WriteAnswer::Refused(why) => refused(why, answer),
-    }
-}
-
-pub fn read_number(n: ReadAnswer, answer: &mut [i64])
-    ensures { λ r. ⌜ now (answer .exit) ≡ stored (numberNumbers (readOutcome n)) (now (answer .entry)) ⌝ }
-{
-    match n {
-        ReadAnswer::Value(n) => store::three(answer, 0, n, 0),
-        ReadAnswer::Refused(why) => refused(why, answer),
     }
 }
 

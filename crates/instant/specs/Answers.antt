@@ -13,18 +13,12 @@ use Rattle.calendar.specs.Answers.{ofDate}
 use Rattle.instant.specs.Units.{perSecond, firstInstant, lastInstant}
 use Rattle.instant.specs.Instant.{dayOf, fieldsOf, timeOfFields, instantAt}
 use Rattle.instant.specs.declared.Fields.{Fields}
-use Rattle.instant.specs.declared.NumberAnswer.{NumberAnswer}
-use Rattle.instant.specs.declared.NumberAnswer.the-variants as N
 use Rattle.instant.specs.declared.FieldsAnswer.{FieldsAnswer}
 use Rattle.instant.specs.declared.FieldsAnswer.the-variants as F
 use Rattle.instant.specs.declared.IndexAnswer.{IndexAnswer}
 use Rattle.instant.specs.declared.IndexAnswer.the-variants as I
 
--- what each case of an answer hands back
-abbrev pub numberOutcome : NumberAnswer → Outcome ℤ
-numberOutcome (N.Value n) = value n
-numberOutcome (N.Refused r) = refused (refusalNumber r)
-
+-- what each case of an answer hands back; for a number it is `numberOutcome` of the calendar
 abbrev pub fieldsOutcome : FieldsAnswer → Outcome Fields
 fieldsOutcome (F.Value f) = value f
 fieldsOutcome (F.Refused r) = refused (refusalNumber r)

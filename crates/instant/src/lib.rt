@@ -6,6 +6,7 @@
 //     index_days(instants, days)                                                days written    refusals 12, then 4 with the place
 
 use calendar::DateAnswer;
+use calendar::NumberAnswer;
 use refusal::Refusal;
 use units::FIRST_INSTANT;
 use units::LAST_INSTANT;
@@ -18,7 +19,8 @@ mod time_of_day;
 mod units;
 
 ghost use mathlib.Core.Path.{_≡_};
-ghost use Rattle.instant.specs.Answers.{numberOutcome, fieldsOutcome, indexOutcome, dayAnswer, fieldsAnswer, joinAnswer, indexAnswer, indexDays};
+ghost use Rattle.calendar.specs.Answers.{numberOutcome};
+ghost use Rattle.instant.specs.Answers.{fieldsOutcome, indexOutcome, dayAnswer, fieldsAnswer, joinAnswer, indexAnswer, indexDays};
 
 pub struct Fields {
     pub year: i64,
@@ -28,11 +30,6 @@ pub struct Fields {
     pub minute: i64,
     pub second: i64,
     pub millisecond: i64,
-}
-
-pub enum NumberAnswer {
-    Value(i64),
-    Refused(Refusal),
 }
 
 pub enum FieldsAnswer {
@@ -85,13 +82,13 @@ pub fn join_instant(
     ensures { λ r. ⌜ numberOutcome r ≡ joinAnswer year month day hour minute second millisecond ⌝ }
 {
     match calendar::days_from_civil(year, month, day) {
-        calendar::NumberAnswer::Value(count) => {
+        NumberAnswer::Value(count) => {
             match time_of_day::check_time(hour, minute, second, millisecond) {
                 NumberAnswer::Value(time) => NumberAnswer::Value(count * PER_DAY + time),
                 NumberAnswer::Refused(r) => NumberAnswer::Refused(r),
             }
         }
-        calendar::NumberAnswer::Refused(r) => NumberAnswer::Refused(r),
+        NumberAnswer::Refused(r) => NumberAnswer::Refused(r),
     }
 }
 

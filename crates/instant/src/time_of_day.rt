@@ -5,14 +5,14 @@ use super::units::PER_HOUR;
 use super::units::PER_MINUTE;
 use super::units::PER_SECOND;
 use crate::Fields;
-use crate::NumberAnswer;
 use calendar::Date;
+use calendar::NumberAnswer;
 use refusal::Refusal;
 ghost use mathlib.Core.Path.{_≡_};
 ghost use Prim.Native.Nat.{_+_, _*_, _≤_, _<_};
 ghost use Rattle.instant.specs.Units.{perSecond, perMinute, perHour, perDay};
 ghost use Rattle.instant.specs.Instant.{fieldsAt};
-ghost use Rattle.instant.specs.Answers.{numberOutcome};
+ghost use Rattle.calendar.specs.Answers.{numberOutcome};
 ghost use Rattle.instant.specs.Checked.{timeAnswer};
 
 // The fields of a date and a time of day.

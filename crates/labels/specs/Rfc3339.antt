@@ -5,13 +5,10 @@ use mathlib.Core.Bool.{cond}
 use mathlib.Core.List.{List, [], _∷_, _++_}
 use lib.IntN.{ℤ, pos, natAbs}
 use lib.ListN.{drop}
-use Rattle.refusal.specs.Numbers.{refusalNumber}
 use Rattle.refusal.specs.Outcome.{Outcome, value, refused, refusedAt}
 use Rattle.instant.specs.Answers.{fieldsAnswer, joinAnswer}
 use Rattle.instant.specs.declared.Fields.{Fields}
 use Rattle.labels.specs.Digits.{digits, numberAt, fits}
-use Rattle.labels.specs.declared.rfc3339.ReadAnswer.{ReadAnswer}
-use Rattle.labels.specs.declared.rfc3339.ReadAnswer.the-variants as R
 
 -- how many decimals the seconds have
 abbrev pub decimals : ℕ
@@ -45,11 +42,6 @@ dateShape = dateText 0 0 0
 
 abbrev pub timeShape : (decimals : ℕ) → List ℕ
 timeShape decimals = timeText decimals 0 0 0 0
-
--- what each case of an answer hands back
-abbrev pub readOutcome : ReadAnswer → Outcome ℤ
-readOutcome (R.Value ms) = value ms
-readOutcome (R.Refused r) = refused (refusalNumber r)
 
 -- the instant of a date and of the time behind it
 abbrev pub readFields : (date time : List ℕ) → Outcome ℤ

@@ -7,16 +7,16 @@ use crate::digits::COLON;
 use crate::digits::POINT;
 use crate::digits::Values;
 use crate::digits::ZERO;
+use calendar::NumberAnswer;
 use instant::Fields;
 use instant::FieldsAnswer;
-use instant::NumberAnswer;
 use refusal::Refusal;
 ghost use mathlib.Core.Path.{_≡_};
 ghost use Prim.Native.Nat.{_+_, _≤_};
 ghost use lib.ListN.{length};
-ghost use Rattle.instant.specs.Answers.{numberOutcome};
+ghost use Rattle.calendar.specs.Answers.{numberOutcome};
 ghost use Rattle.labels.specs.Written.{writeOutcome, writeAnswer, writtenBuffer};
-ghost use Rattle.labels.specs.Rfc3339.{labelText, instantLabel, readOutcome, readAnswer};
+ghost use Rattle.labels.specs.Rfc3339.{labelText, instantLabel, readAnswer};
 ghost use Rattle.labels.specs.Pairs.{Narrow, NarrowFields, spelledText, readDate, readTime};
 
 // The marks, beside colon and point.
@@ -40,11 +40,6 @@ const LENGTH: usize = 21 + DECIMALS;
 
 // The byte at which the time begins.
 const TIME: usize = 10;
-
-pub enum ReadAnswer {
-    Value(i64),
-    Refused(Refusal),
-}
 
 // Writes the label of an instant. 4 for an instant outside the range, then 7 for a buffer shorter than the label.
 pub fn write_instant(ms: i64, out: &mut [u8]) -> WriteAnswer
@@ -121,15 +116,15 @@ fn spelled(
 }
 
 // The instant of a label. 8 for a label of another shape, then the refusals of its fields: 2, 3, 5.
-pub fn read_instant(label: &[u8]) -> ReadAnswer
-    ensures { λ r. ⌜ readOutcome r ≡ readAnswer (now (label .entry)) ⌝ }
+pub fn read_instant(label: &[u8]) -> NumberAnswer
+    ensures { λ r. ⌜ numberOutcome r ≡ readAnswer (now (label .entry)) ⌝ }
 {
     if label.len() != LENGTH {
-        return ReadAnswer::Refused(Refusal::MalformedLabel);
+        return NumberAnswer::Refused(Refusal::MalformedLabel);
     }
     match read_date(&label[..TIME]) {
         CivilDate::Read(year, month, day) => match read_time(&label[TIME..], DECIMALS) {
-            Time::Read(hour, minute, second, millisecond) => answered(instant::join_instant(
+            Time::Read(hour, minute, second, millisecond) => instant::join_instant(
                 year as i64,
                 month as i64,
                 day as i64,
@@ -137,19 +132,10 @@ pub fn read_instant(label: &[u8]) -> ReadAnswer
                 minute as i64,
                 second as i64,
                 millisecond as i64,
-            )),
-            Time::Malformed => ReadAnswer::Refused(Refusal::MalformedLabel),
+            ),
+            Time::Malformed => NumberAnswer::Refused(Refusal::MalformedLabel),
         },
-        CivilDate::Malformed => ReadAnswer::Refused(Refusal::MalformedLabel),
-    }
-}
-
-fn answered(answer: NumberAnswer) -> ReadAnswer
-    ensures { λ r. ⌜ readOutcome r ≡ numberOutcome answer ⌝ }
-{
-    match answer {
-        NumberAnswer::Value(ms) => ReadAnswer::Value(ms),
-        NumberAnswer::Refused(r) => ReadAnswer::Refused(r),
+        CivilDate::Malformed => NumberAnswer::Refused(Refusal::MalformedLabel),
     }
 }
 

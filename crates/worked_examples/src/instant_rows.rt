@@ -2,12 +2,12 @@
 
 use super::show::natural;
 use super::show::number;
+use super::show::number_answer;
 use super::show::refused;
 use super::show::text;
 use instant::Fields;
 use instant::FieldsAnswer;
 use instant::IndexAnswer;
-use instant::NumberAnswer;
 
 pub fn run() {
     moment(-86400000);
@@ -58,13 +58,6 @@ fn numbers(a: i64, b: i64, c: i64) {
     number(b);
     text(b" ");
     number(c);
-}
-
-fn number_answer(answer: NumberAnswer) {
-    match answer {
-        NumberAnswer::Value(n) => number(n),
-        NumberAnswer::Refused(r) => refused(r),
-    }
 }
 
 fn joined(year: i64, month: i64, day: i64, hour: i64, minute: i64, second: i64, millisecond: i64) {

@@ -2,10 +2,10 @@
 
 use super::show::natural;
 use super::show::number;
+use super::show::number_answer;
 use super::show::refused;
 use super::show::text;
 use labels::WriteAnswer;
-use labels::rfc3339::ReadAnswer;
 
 pub fn run() {
     written(1683729000000);
@@ -51,10 +51,7 @@ fn read(label: &[u8]) {
     text(b"label ");
     text(label);
     text(b": instant ");
-    match labels::rfc3339::read_instant(label) {
-        ReadAnswer::Value(ms) => number(ms),
-        ReadAnswer::Refused(r) => refused(r),
-    }
+    number_answer(labels::rfc3339::read_instant(label));
     text(b"\n");
 }
 

@@ -11,8 +11,8 @@ use Rattle.harness.proofs.harness_day_of_year.Tie as tie
 day-of-year-requires : tie.Need-day-of-year-requires
 day-of-year-requires c κs = search needs
 
-calendar-number-requires : tie.Need-calendar-number-requires
-calendar-number-requires c κs = search needs
+number-requires : tie.Need-number-requires
+number-requires c κs = search needs
 
 same-length : tie.Need-same-length
 same-length c = search needs
@@ -21,8 +21,8 @@ returns : tie.Need-returns
 returns c =
     let f = c .before .before .before .before .fits in
     same-numbers _ (ap numberNumbers (c .before .before .before .day-of-year .ensures ∙ (λ i. dayOfYearAnswer (toZ-ofZ (f .year) i) (toZ-ofZ (f .month) i) (toZ-ofZ (f .day) i))))
-    (c .before .calendar-number .ensures)
+    (c .before .number .ensures)
 
 pub harness-day-of-year-spec : {M : Type 1} → statement M
 harness-day-of-year-spec =
-    tie.close (tie.spec day-of-year-requires calendar-number-requires same-length returns)
+    tie.close (tie.spec day-of-year-requires number-requires same-length returns)

@@ -11,8 +11,8 @@ use Rattle.harness.proofs.harness_days_from_civil.Tie as tie
 days-from-civil-requires : tie.Need-days-from-civil-requires
 days-from-civil-requires c κs = search needs
 
-calendar-number-requires : tie.Need-calendar-number-requires
-calendar-number-requires c κs = search needs
+number-requires : tie.Need-number-requires
+number-requires c κs = search needs
 
 same-length : tie.Need-same-length
 same-length c = search needs
@@ -21,8 +21,8 @@ returns : tie.Need-returns
 returns c =
     let f = c .before .before .before .before .fits in
     same-numbers _ (ap numberNumbers (c .before .before .before .days-from-civil .ensures ∙ (λ i. daysAnswer (toZ-ofZ (f .year) i) (toZ-ofZ (f .month) i) (toZ-ofZ (f .day) i))))
-    (c .before .calendar-number .ensures)
+    (c .before .number .ensures)
 
 pub harness-days-from-civil-spec : {M : Type 1} → statement M
 harness-days-from-civil-spec =
-    tie.close (tie.spec days-from-civil-requires calendar-number-requires same-length returns)
+    tie.close (tie.spec days-from-civil-requires number-requires same-length returns)

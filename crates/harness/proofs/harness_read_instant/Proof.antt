@@ -9,15 +9,15 @@ use Rattle.harness.proofs.harness_read_instant.Tie as tie
 read-instant-requires : tie.Need-read-instant-requires
 read-instant-requires c κs = search needs
 
-read-number-requires : tie.Need-read-number-requires
-read-number-requires c κs = search needs
+number-requires : tie.Need-number-requires
+number-requires c κs = search needs
 
 same-length : tie.Need-same-length
 same-length c = search needs
 
 returns : tie.Need-returns
-returns c = same-numbers _ (ap numberNumbers (c .before .before .before .read-instant .ensures)) (c .before .read-number .ensures)
+returns c = same-numbers _ (ap numberNumbers (c .before .before .before .read-instant .ensures)) (c .before .number .ensures)
 
 pub harness-read-instant-spec : {M : Type 1} → statement M
 harness-read-instant-spec =
-    tie.close (tie.spec read-instant-requires read-number-requires same-length returns)
+    tie.close (tie.spec read-instant-requires number-requires same-length returns)

@@ -1,6 +1,5 @@
 -- The date and the time are accepted or refused each by itself; accepted, their sum is in the range and fits.
 use Rattle.instant.proofs.Joined.{time-read, date-decided, time-decided, Both, multiplies, adds, answers}
-use Rattle.instant.specs.Answers.{numberOutcome}
 use Rattle.instant.specs.Checked.{timeAnswer}
 use Rattle.calendar.specs.Answers as calendar
 use Rattle.calendar.proofs.Tests.{days-read}
@@ -37,7 +36,7 @@ days-of c = ap calendar.numberOutcome (sym (c .before .before .count .given .1))
 
 time-of :
     (c : tie.After-check-time) →
-    numberOutcome (c .check-time .result) ≡ timeAnswer (start c .args .hour) (start c .args .minute) (start c .args .second) (start c .args .millisecond)
+    calendar.numberOutcome (c .check-time .result) ≡ timeAnswer (start c .args .hour) (start c .args .minute) (start c .args .second) (start c .args .millisecond)
 time-of c = let a = start c .args in
     let f = start c .fits in
     c .check-time .ensures ∙ time-read (a .hour) (a .minute) (a .second) (a .millisecond) (f .hour) (f .minute) (f .second) (f .millisecond)
@@ -48,7 +47,7 @@ both : (c : tie.After-known-told2) → let k = c .before .before .before in
 both c = let k = c .before .before .before in
     record {
       days = days-of k;
-      clock = ap numberOutcome (sym (c .before .time .given .1)) ∙ time-of k;
+      clock = ap calendar.numberOutcome (sym (c .before .time .given .1)) ∙ time-of k;
       count-fits = search needs;
       time-fits = search needs;
     }
@@ -72,7 +71,7 @@ returns-2 : tie.Need-returns-2
 returns-2 c = let k = c .before .before .before in
     let a = start k .args in
     time-decided (a .hour) (a .minute) (a .second) (a .millisecond) (a .year) (a .month) (a .day) _ (days-of k) (refusalNumber (c .before .r .given .0 .0))
-    (ap numberOutcome (sym (c .before .r .given .1)) ∙ time-of k)
+    (ap calendar.numberOutcome (sym (c .before .r .given .1)) ∙ time-of k)
 
 returns-3 : tie.Need-returns-3
 returns-3 c = let k = c .before .before .before in

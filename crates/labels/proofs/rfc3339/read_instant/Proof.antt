@@ -63,9 +63,6 @@ cast-join-instant-7 c = search needs
 join-instant-requires : tie.Need-join-instant-requires
 join-instant-requires c κs = search needs
 
-answered-requires : tie.Need-answered-requires
-answered-requires c κs = search needs
-
 enum-told : tie.Need-enum-told
 enum-told c = search needs
 
@@ -74,11 +71,11 @@ enum-told-2 c = search needs
 
 returns-2 : tie.Need-returns-2
 returns-2 c =
-    let label = c .before .before .before .before .before .before .before .before .before .before .before .before .before .before .args .label .now in
-    let d = c .before .before .before .before .before .before .before .before .year .given in
-    let g = c .before .before .before .hour .given in
-    let e = sym (d .1) ∙ c .before .before .before .before .before .before .before .before .before .before .read-date .ensures in
-    let t = sym (g .1) ∙ c .before .before .before .before .before .read-time .ensures ∙ ap (readTime decimals) (rest-is 10 label) in
+    let label = c .before .before .before .before .before .before .before .before .before .before .before .before .before .args .label .now in
+    let d = c .before .before .before .before .before .before .before .year .given in
+    let g = c .before .before .hour .given in
+    let e = sym (d .1) ∙ c .before .before .before .before .before .before .before .before .before .read-date .ensures in
+    let t = sym (g .1) ∙ c .before .before .before .before .read-time .ensures ∙ ap (readTime decimals) (rest-is 10 label) in
     let fy : Fits w32 (d .0 .0) = search needs in
     let fo : Fits w32 (d .0 .1 .0) = search needs in
     let fd : Fits w32 (d .0 .1 .1 .0) = search needs in
@@ -86,7 +83,7 @@ returns-2 c =
     let fm : Fits w32 (g .0 .1 .0) = search needs in
     let fs : Fits w32 (g .0 .1 .1 .0) = search needs in
     let fk : Fits w32 (g .0 .1 .1 .1 .0) = search needs in
-    c .answered .ensures ∙ c .before .join-instant .ensures
+    c .join-instant .ensures
     ∙ (λ i. joinAnswer (as-signed fy i) (as-signed fo i) (as-signed fd i) (as-signed fh i) (as-signed fm i) (as-signed fs i) (as-signed fk i))
     ∙ read-whole label (d .0 .0) (d .0 .1 .0) (d .0 .1 .1 .0) (g .0 .0) (g .0 .1 .0) (g .0 .1 .1 .0) (g .0 .1 .1 .1 .0) (omega arith) e t
 
@@ -121,7 +118,6 @@ read-instant-spec =
     cast-join-instant-6
     cast-join-instant-7
     join-instant-requires
-    answered-requires
     enum-told
     enum-told-2
     returns-2

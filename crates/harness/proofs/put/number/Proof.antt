@@ -2,13 +2,13 @@
 use mathlib.Core.Path.{sym, ap}
 use mir.Syntax.{w64}
 use mir.Val.{SFits}
-use Rattle.instant.specs.Answers.{numberOutcome}
+use Rattle.calendar.specs.Answers.{numberOutcome}
 use Rattle.harness.specs.Numbers.{numberNumbers}
 use Rattle.harness.proofs.Answers.{number-stored}
 use Rattle.harness.proofs.Stores.{same-numbers}
 use borrow.Author.Needs.{needs}
-use Rattle.harness.proofs.put.instant_number.Statement.{statement}
-use Rattle.harness.proofs.put.instant_number.Tie as tie
+use Rattle.harness.proofs.put.number.Statement.{statement}
+use Rattle.harness.proofs.put.number.Tie as tie
 
 enum-known-n : tie.Need-enum-known-n
 enum-known-n c = search needs
@@ -36,10 +36,11 @@ same-length-2 c = search needs
 
 returns-2 : tie.Need-returns-2
 returns-2 c =
-    same-numbers _ (ap (λ a. numberNumbers (numberOutcome a)) (sym (c .before .before .before .before .n2 .given .1))) (c .before .refused .ensures)
+    same-numbers _ (ap (λ a. numberNumbers (numberOutcome a)) (sym (c .before .before .before .before .n2 .given .1)))
+    (c .before .refused .ensures)
 
-pub instant-number-spec : {M : Type 1} → statement M
-instant-number-spec =
+pub number-spec : {M : Type 1} → statement M
+number-spec =
     tie.close
     (tie.spec
     enum-known-n
