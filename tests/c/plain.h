@@ -32,6 +32,9 @@ struct constants {
     int64_t a, b, d, m, c, k, t;
 };
 
+/* The length of a month, 1 to 12. */
+int64_t plain_month_length(int64_t year, int64_t month);
+
 struct numbers plain_days_from_civil(int64_t year, int64_t month, int64_t day);
 struct numbers plain_civil_from_days(int64_t days);
 struct numbers plain_weekday_from_days(int64_t days);

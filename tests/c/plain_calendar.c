@@ -6,7 +6,7 @@ static int leap(int64_t year)
     return year % 4 == 0 && !(year % 100 == 0 && year % 400 != 0);
 }
 
-static int64_t month_length(int64_t year, int64_t month)
+int64_t plain_month_length(int64_t year, int64_t month)
 {
     static const int lengths[12] = {31, 28, 31, 30, 31, 30, 31, 31, 30, 31, 30, 31};
     return month == 2 && leap(year) ? 29 : lengths[month - 1];
@@ -32,7 +32,7 @@ static int date_refusal(int64_t year, int64_t month, int64_t day)
         return 1;
     if (outside(1, 12, month))
         return 2;
-    return outside(1, month_length(year, month), day) ? 3 : 0;
+    return outside(1, plain_month_length(year, month), day) ? 3 : 0;
 }
 
 /* The day of the year, from 1, of a date that has no refusal. */
@@ -40,7 +40,7 @@ static int64_t day_of_year(int64_t year, int64_t month, int64_t day)
 {
     int64_t m;
     for (m = 1; m < month; m++)
-        day += month_length(year, m);
+        day += plain_month_length(year, m);
     return day;
 }
 
@@ -59,8 +59,8 @@ struct numbers plain_civil_from_days(int64_t days)
     while (year_start(year + 1) <= days)
         year++;
     rest = days - year_start(year);
-    while (rest >= month_length(year, month))
-        rest -= month_length(year, month++);
+    while (rest >= plain_month_length(year, month))
+        rest -= plain_month_length(year, month++);
     return answer_of(4, 0, year, month, rest + 1);
 }
 
@@ -78,7 +78,7 @@ struct numbers plain_is_leap(int64_t year)
 struct numbers plain_last_day_of_month(int64_t year, int64_t month)
 {
     int refusal = date_refusal(year, month, 1);
-    return refusal ? refused(refusal) : value(month_length(year, month));
+    return refusal ? refused(refusal) : value(plain_month_length(year, month));
 }
 
 struct numbers plain_day_of_year(int64_t year, int64_t month, int64_t day)

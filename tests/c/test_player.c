@@ -9,10 +9,8 @@
 #include <string.h>
 
 #include "ovenquill.h"
+#include "plain.h"
 
-#define FIRST_DAY (-719528)
-#define LAST_DAY 2932896
-#define DAY_MS 86400000LL
 #define GUARD 0xA5
 
 static long checks, failures;
@@ -22,17 +20,6 @@ static void expect(int ok, const char *what, long long input)
     checks++;
     if (!ok && failures++ < 20)
         fprintf(stderr, "FAILED: %s at %lld\n", what, input);
-}
-
-static int leap(int year)
-{
-    return year % 4 == 0 && (year % 100 != 0 || year % 400 == 0);
-}
-
-static int month_length(int year, int month)
-{
-    static const int lengths[12] = {31, 28, 31, 30, 31, 30, 31, 31, 30, 31, 30, 31};
-    return month == 2 && leap(year) ? 29 : lengths[month - 1];
 }
 
 /* Holds the call's answer and its whole buffer to what document 01 says, for one buffer length. */
@@ -78,7 +65,7 @@ static void check_calendar(int step)
         if ((day - FIRST_DAY) % step == 0 || day == LAST_DAY)
             check_day(day, year, month, date);
         weekday = (weekday + 1) % 7;
-        if (++date > month_length(year, month)) {
+        if (++date > plain_month_length(year, month)) {
             date = 1;
             if (++month > 12) {
                 month = 1;
