@@ -1,19 +1,15 @@
 -- The fields of an instant have room in its label, and what the code writes of them is the label.
-use Prim.Native.Nat.{ℕ, _+_, _≤_, _<_, _^_}
-use mathlib.Core.Path.{_≡_, sym, ap, _∙_, subst}
+use Prim.Native.Nat.{ℕ, _≤_}
+use mathlib.Core.Path.{_≡_, sym, ap, _∙_}
 use mathlib.Core.Bool.{false}
 use mathlib.Core.List.{_++_}
 use native.Mathlib.Omega.{arith}
-use lib.Dec.{T, lit<}
+use lib.Dec.{lit<}
 use lib.IntN.{ℤ, pos, natAbs}
-use lib.Signed.{nonNeg}
-use mir.Syntax.{w32, w64}
-use mir.Val.{SFits, Fits, toZ}
-use mir.Facts.{toZ-ofZ, toZ-pos}
 use Rattle.refusal.specs.Outcome.{value}
 use Rattle.numbers.specs.Range.{outside}
-use Rattle.numbers.proofs.Machine.{read, pos-fits, cast-pos}
-use Rattle.numbers.proofs.Between.{Within, within, inside-pos}
+use Rattle.numbers.proofs.Machine.{read}
+use Rattle.numbers.proofs.Between.{Within, inside-pos, abs-read, read-below}
 use Rattle.calendar.specs.Gregorian.{date}
 use Rattle.calendar.specs.Answers.{daysAnswer}
 use Rattle.calendar.specs.declared.Date.{Date}
@@ -27,10 +23,6 @@ use Rattle.instant.proofs.Joined.{join-accepted}
 use Rattle.instant.proofs.Laws.{split-join}
 use Rattle.labels.specs.Rfc3339.{decimals, dateText, timeText, labelText}
 use Rattle.labels.specs.Pairs.{Narrow, NarrowFields, spelledText}
-
--- an unsigned number as a signed one
-pub as-signed : {n : ℕ} → Fits w32 n → toZ w64 n ≡ pos n
-as-signed h = toZ-pos w64 (omega (arith, h .fits))
 
 -- fields that make an instant
 wider : {k : ℕ} (l : ℕ) {z : ℤ} → Within 0 k z → k ≤ l → outside (pos 0) (pos l) z ≡ false
@@ -55,20 +47,6 @@ joined-narrow year month day hour minute second millisecond ms e =
 
 pub fields-narrow : (ms : ℤ) (f : Fields) → fieldsAnswer ms ≡ value f → NarrowFields f
 fields-narrow ms f e = joined-narrow (f .year) (f .month) (f .day) (f .hour) (f .minute) (f .second) (f .millisecond) ms (split-join ms f e)
-
--- a field in 0..k as an unsigned number
-module _ (k : ℕ) (h : k < 2 ^ 32) (z : ℤ) (e : outside (pos 0) (pos k) z ≡ false) where
-  fits : SFits w64 z
-  fits = let w = within 0 (pos k) z e in let l = w .high in subst (λ z. SFits w64 z) (sym (w .is)) (pos-fits (omega arith))
-
-  pub abs-read : natAbs (read z) ≡ natAbs z
-  abs-read = ap natAbs (toZ-ofZ fits)
-
-  pub cast-field : T (nonNeg (read z)) × Fits w32 (natAbs (read z))
-  cast-field = let w = within 0 (pos k) z e in let l = w .high in cast-pos w32 (natAbs z) (omega arith) (toZ-ofZ fits ∙ w .is)
-
-  pub read-below : natAbs (read z) < k + 1
-  read-below = let w = within 0 (pos k) z e in let l = w .high in omega (arith, abs-read)
 
 module _ (f : Fields) (n : NarrowFields f) where
   pub narrow-read :

@@ -1,24 +1,23 @@
 -- A tested position as a natural number, and its label.
 use Prim.Native.Nat.{ℕ, _<_}
-use mathlib.Core.Path.{_≡_, refl, ap, _∙_}
+use mathlib.Core.Path.{_≡_, ap, _∙_}
 use mathlib.Core.Bool.{true, false}
 use mathlib.Core.List.{List}
 use native.Mathlib.Omega.{arith}
-use lib.IntN.{ℤ, pos, negsuc, natAbs}
+use lib.IntN.{ℤ, pos, natAbs}
 use lib.Signed.{ltZ}
-use borrow.Author.Tests.{ltb-false}
 use mir.Syntax.{w64}
 use mir.Val.{SFits}
 use mir.Facts.{toZ-ofZ}
 use Rattle.refusal.specs.Outcome.{Outcome, value, refused}
-use Rattle.numbers.proofs.Integers.{no-both}
+use Rattle.numbers.proofs.Integers.{not-outside}
+use Rattle.numbers.proofs.Between.{within}
 use Rattle.numbers.proofs.Machine.{read, tested-below, tested-above, tested-inside}
 use Rattle.labels.proofs.Copy.{Writes, renamed}
 use Rattle.labels.specs.Webvtt.{lastPosition, positionText, positionLabel}
 
 pub in-range : (z : ℤ) → ltZ z (pos 0) ≡ false → ltZ lastPosition z ≡ false → (z ≡ pos (natAbs z)) × (natAbs z < 360000000000)
-in-range (pos a) lo hi = (refl, omega (arith, ltb-false 359999999999 a hi))
-in-range (negsuc a) lo hi = no-both true refl lo
+in-range z lo hi = let w = within 0 lastPosition z (not-outside (pos 0) lastPosition z lo hi) in (w .is, omega (arith, w .high))
 
 module _ {z : ℤ} (f : SFits w64 z) where
   pub below-range : ltZ (read z) (pos 0) ≡ true → refused 6 ≡ positionLabel z

@@ -1,18 +1,18 @@
 -- What a range test that code has made says of the number.
-use Prim.Native.Nat.{ℕ, _≤_}
-use mathlib.Core.Path.{_≡_, refl, sym, _∙_, subst}
+use Prim.Native.Nat.{ℕ, _+_, _≤_, _<_, _^_}
+use mathlib.Core.Path.{_≡_, refl, sym, ap, _∙_, subst}
 use mathlib.Core.Bool.{true, false}
 use native.Mathlib.Omega.{arith}
 use lib.IntN.{ℤ, pos, negsuc, natAbs, _+ℤ_}
 use lib.Dec.{T}
 use lib.Signed.{ltZ, nonNeg}
 use borrow.Author.Tests.{ltb-false, le-ltb}
-use mir.Syntax.{Width, w64}
-use mir.Val.{SFits, Fits}
-use mir.Facts.{toZ-ofZ}
+use mir.Syntax.{Width, w32, w64}
+use mir.Val.{SFits, Fits, toZ}
+use mir.Facts.{toZ-ofZ, toZ-pos}
 use Rattle.numbers.specs.Range.{outside}
 use Rattle.numbers.proofs.Integers.{no-both, outside-no, not-outside, lt-add}
-use Rattle.numbers.proofs.Machine.{read, cast-pos}
+use Rattle.numbers.proofs.Machine.{read, pos-fits, cast-pos}
 
 -- a number between two that fit
 pub fits-between : (w : Width) (first last z : ℤ) → SFits w first → SFits w last → outside first last z ≡ false → SFits w z
@@ -45,6 +45,23 @@ module _ {first last : ℕ} {z : ℤ} (f : SFits w64 z) (t : Within first last z
   cast-within =
       let l = subst (SFits w64) (t .is) f .sfits in
       cast-pos w64 (natAbs z) (omega arith) (toZ-ofZ f ∙ t .is)
+
+-- a number in 0..k as an unsigned one of 32 bits, and back
+module _ (k : ℕ) (h : k < 2 ^ 32) (z : ℤ) (e : outside (pos 0) (pos k) z ≡ false) where
+  small-fits : SFits w64 z
+  small-fits = let w = within 0 (pos k) z e in let l = w .high in subst (SFits w64) (sym (w .is)) (pos-fits (omega arith))
+
+  pub abs-read : natAbs (read z) ≡ natAbs z
+  abs-read = ap natAbs (toZ-ofZ small-fits)
+
+  pub cast-small : T (nonNeg (read z)) × Fits w32 (natAbs (read z))
+  cast-small = let w = within 0 (pos k) z e in let l = w .high in cast-pos w32 (natAbs z) (omega arith) (toZ-ofZ small-fits ∙ w .is)
+
+  pub read-below : natAbs (read z) < k + 1
+  read-below = let w = within 0 (pos k) z e in let l = w .high in omega (arith, abs-read)
+
+pub as-signed : {n : ℕ} → Fits w32 n → toZ w64 n ≡ pos n
+as-signed h = toZ-pos w64 (omega (arith, h .fits))
 
 -- numbers that lie in a range, as natural numbers and from any first number on
 pub inside-pos : (a b n : ℕ) → a ≤ n → n ≤ b → outside (pos a) (pos b) (pos n) ≡ false

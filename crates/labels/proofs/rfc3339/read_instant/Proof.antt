@@ -1,5 +1,5 @@
 use Rattle.labels.proofs.Reading.{rest-is, wrong-length, wrong-date, wrong-time, read-whole}
-use Rattle.labels.proofs.Instants.{as-signed}
+use Rattle.numbers.proofs.Between.{as-signed}
 use Rattle.labels.specs.Pairs.{readTime}
 use Rattle.labels.specs.Rfc3339.{decimals}
 use Rattle.instant.specs.Answers.{joinAnswer}
