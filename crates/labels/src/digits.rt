@@ -15,7 +15,8 @@ pub const COLON: u8 = b':';
 
 pub const POINT: u8 = b'.';
 
-// Four digits of a number. 103 / 1024 of numbers below 100 that stand apart in one number are the tens of each.
+// Four digits of a number. Of numbers below 100 that stand apart in one number, 103 / 1024 are the tens of each, and 256 times the
+// numbers less 2559 times the tens put each tens digit into the byte below its ones.
 pub fn four(n: u32) -> [u8; 4]
     requires { ⌜ n < 10000 ⌝ }
     ensures { λ r. ⌜ r ≡ digits n 4 ⌝ }
@@ -66,9 +67,11 @@ pub fn read_values(shape: &[u8], text: &[u8]) -> Values
     ensures { λ r. ⌜ r ≡ readValues (now (shape .entry)) (now (text .entry)) ⌝ }
 {
     let v = word_of(text) ^ word_of(shape);
+    // No bit that the shape settles may differ, so that what is left is below 16.
     if v & mask_of(shape) != 0 {
         return Values::Malformed;
     }
+    // And below 10: 6 more stay below 16.
     if v + 0x0606_0606_0606_0606 & 0xf0f0_f0f0_f0f0_f0f0 != 0 {
         return Values::Malformed;
     }
