@@ -8,18 +8,12 @@ use Rattle.calendar.specs.Range.{firstYear, lastYear, firstCount, lastCo
 use Rattle.calendar.specs.Gregorian.{leapYear, monthLength, date}
 use Rattle.calendar.specs.Count.{dateOfCount, countOfDate, weekday, dayOfYear}
 use Rattle.calendar.specs.declared.Date.{Date}
-use Rattle.calendar.specs.declared.NumberAnswer.{NumberAnswer}
-use Rattle.calendar.specs.declared.NumberAnswer.the-variants as N
 use Rattle.calendar.specs.declared.DateAnswer.{DateAnswer}
 use Rattle.calendar.specs.declared.DateAnswer.the-variants as D
 use Rattle.calendar.specs.declared.FlagAnswer.{FlagAnswer}
 use Rattle.calendar.specs.declared.FlagAnswer.the-variants as F
 
 -- what each case of an answer hands back
-abbrev pub numberOutcome : NumberAnswer → Outcome ℤ
-numberOutcome (N.Value n) = value n
-numberOutcome (N.Refused r) = refused (refusalNumber r)
-
 abbrev pub dateOutcome : DateAnswer → Outcome Date
 dateOutcome (D.Value d) = value d
 dateOutcome (D.Refused r) = refused (refusalNumber r)

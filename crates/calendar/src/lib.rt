@@ -15,10 +15,11 @@ use range::FIRST_WEEKDAY;
 use range::FIRST_YEAR;
 use range::LAST_COUNT;
 use range::LAST_YEAR;
+use refusal::NumberAnswer;
 use refusal::Refusal;
 
 mod convert;
-mod range;
+pub mod range;
 mod year;
 
 ghost use mathlib.Core.Path.{_≡_};
@@ -26,10 +27,10 @@ ghost use mathlib.Core.Bool.{false, cond};
 ghost use Prim.Native.Nat.{_≤_};
 ghost use lib.IntN.{pos, _+ℤ_};
 ghost use Rattle.numbers.specs.Range.{outside, since, eqZ};
-ghost use Rattle.refusal.specs.Outcome.{value};
+ghost use Rattle.refusal.specs.Outcome.{value, numberOutcome};
 ghost use Rattle.calendar.specs.Range.{firstYear, lastYear, firstCount, lastCount};
 ghost use Rattle.calendar.specs.Count.{dateOfCount};
-ghost use Rattle.calendar.specs.Answers.{numberOutcome, dateOutcome, flagOutcome, leapAnswer, lastDayAnswer, ofDate, daysAnswer, dayOfYearAnswer, civilAnswer, weekdayAnswer, addDaysAnswer};
+ghost use Rattle.calendar.specs.Answers.{dateOutcome, flagOutcome, leapAnswer, lastDayAnswer, ofDate, daysAnswer, dayOfYearAnswer, civilAnswer, weekdayAnswer, addDaysAnswer};
 ghost use Rattle.calendar.specs.Closed.{fromYear, toYear, baseYear, lastDay};
 ghost use Rattle.calendar.specs.Checked.{checkedOutcome, CheckedValid, commonLength};
 
@@ -37,11 +38,6 @@ pub struct Date {
     pub year: i64,
     pub month: i64,
     pub day: i64,
-}
-
-pub enum NumberAnswer {
-    Value(i64),
-    Refused(Refusal),
 }
 
 pub enum DateAnswer {
@@ -70,7 +66,7 @@ pub fn days_from_civil(year: i64, month: i64, day: i64) -> NumberAnswer
 pub fn civil_from_days(days: i64) -> DateAnswer
     ensures { λ r. ⌜ dateOutcome r ≡ civilAnswer days ⌝ }
 {
-    if count_outside(days) {
+    if numbers::outside(FIRST_COUNT, LAST_COUNT, days) {
         return DateAnswer::Refused(Refusal::OutOfRange);
     }
     DateAnswer::Value(date_of_count(days))
@@ -80,7 +76,7 @@ pub fn civil_from_days(days: i64) -> DateAnswer
 pub fn weekday_from_days(days: i64) -> NumberAnswer
     ensures { λ r. ⌜ numberOutcome r ≡ weekdayAnswer days ⌝ }
 {
-    if count_outside(days) {
+    if numbers::outside(FIRST_COUNT, LAST_COUNT, days) {
         return NumberAnswer::Refused(Refusal::OutOfRange);
     }
     NumberAnswer::Value(((days_from_first(days) + FIRST_WEEKDAY) % 7) as i64)
@@ -90,7 +86,7 @@ pub fn weekday_from_days(days: i64) -> NumberAnswer
 pub fn is_leap(year: i64) -> FlagAnswer
     ensures { λ r. ⌜ flagOutcome r ≡ leapAnswer year ⌝ }
 {
-    if year_outside(year) {
+    if numbers::outside(FIRST_YEAR, LAST_YEAR, year) {
         return FlagAnswer::Refused(Refusal::YearOutOfRange);
     }
     FlagAnswer::Value(year::leap_day(years_from_base(year)) == 1)
@@ -100,7 +96,7 @@ pub fn is_leap(year: i64) -> FlagAnswer
 pub fn last_day_of_month(year: i64, month: i64) -> NumberAnswer
     ensures { λ r. ⌜ numberOutcome r ≡ lastDayAnswer year month ⌝ }
 {
-    if year_outside(year) {
+    if numbers::outside(FIRST_YEAR, LAST_YEAR, year) {
         return NumberAnswer::Refused(Refusal::YearOutOfRange);
     }
     match common_length(month) {
@@ -181,26 +177,6 @@ fn check_date(year: i64, month: i64, day: i64) -> Checked
         }
         NumberAnswer::Refused(r) => Checked::Refused(r),
     }
-}
-
-// Whether a count lies outside the range.
-fn count_outside(days: i64) -> bool
-    ensures { λ r. ⌜ r ≡ outside firstCount lastCount days ⌝ }
-{
-    if days < FIRST_COUNT {
-        return true;
-    }
-    days > LAST_COUNT
-}
-
-// Whether a year lies outside the range.
-fn year_outside(year: i64) -> bool
-    ensures { λ r. ⌜ r ≡ outside firstYear lastYear year ⌝ }
-{
-    if year < FIRST_YEAR {
-        return true;
-    }
-    year > LAST_YEAR
 }
 
 // The date of a count in the range.

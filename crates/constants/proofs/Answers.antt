@@ -11,19 +11,19 @@ use Rattle.constants.specs.declared.limits.Constants.{Constants}
 use Rattle.constants.specs.Difference.{apart, differs}
 use Rattle.constants.specs.Least.{at, none, leastBelow}
 use Rattle.constants.specs.Limits.{outsideLimits, endOutside, boundOutside}
-use Rattle.constants.specs.Answers.{difference, searchAnswer, claimed, claimAnswer}
+use Rattle.constants.specs.Answers.{difference, differenceAnswer, claimed, boundAnswer}
 use Rattle.constants.specs.Allowed.{Passed, exact, device, differsAt}
 use Rattle.constants.specs.Residues.{Differs, IsLeast}
 use Rattle.constants.proofs.Least.{NoneBelow, found}
 
 -- numbers outside their limits
 module _ (a b d m c k t end : ℤ) where
-  pub search-refused : (outsideLimits a b d m c k t || endOutside end) ≡ true → refused 9 ≡ searchAnswer a b d m c k t end
-  unfolding searchAnswer
+  pub search-refused : (outsideLimits a b d m c k t || endOutside end) ≡ true → refused 9 ≡ differenceAnswer a b d m c k t end
+  unfolding differenceAnswer
   search-refused h = rw h
 
-  pub claim-refused : (outsideLimits a b d m c k t || boundOutside end) ≡ true → refused 9 ≡ claimAnswer a b d m c k t end
-  unfolding claimAnswer
+  pub claim-refused : (outsideLimits a b d m c k t || boundOutside end) ≡ true → refused 9 ≡ boundAnswer a b d m c k t end
+  unfolding boundAnswer
   claim-refused h = rw h
 
 -- numbers within them, and the search's result r below the end n
@@ -52,22 +52,22 @@ module _ {a b d m c k t end last : ℤ} {q : Constants} {n : ℕ} (p : Passed a 
 
 -- the search
 module _ {a b d m c k t end : ℤ} {q : Constants} {n : ℕ} (p : Passed a b d m c k t end (pos 4294967295) q n) {r : ℕ} (h : IsLeast (Differs q) n r) where
-  pub search-at : r < n → value (at r) ≡ searchAnswer a b d m c k t end
-  unfolding searchAnswer
+  pub search-at : r < n → value (at r) ≡ differenceAnswer a b d m c k t end
+  unfolding differenceAnswer
   search-at lt = rw (p .passed) (ap value (sym (least-at p h lt)))
 
-  pub search-none : n ≤ r → value none ≡ searchAnswer a b d m c k t end
-  unfolding searchAnswer
+  pub search-none : n ≤ r → value none ≡ differenceAnswer a b d m c k t end
+  unfolding differenceAnswer
   search-none le = rw (p .passed) (ap value (sym (least-none p h le)))
 
 -- the claim
 module _ {a b d m c k t bound : ℤ} {q : Constants} {n : ℕ} (p : Passed a b d m c k t bound (pos 4294967294) q n) {r : ℕ} (h : IsLeast (Differs q) n r) where
-  pub claim-below : r < n → refusedAt 10 r ≡ claimAnswer a b d m c k t bound
-  unfolding claimAnswer
+  pub claim-below : r < n → refusedAt 10 r ≡ boundAnswer a b d m c k t bound
+  unfolding boundAnswer
   claim-below lt = rw (p .passed, least-at p h lt)
 
-  pub claim-here : n ≤ r → {here : Bool} → here ≡ differsAt q n → claimed none here ≡ claimAnswer a b d m c k t bound
-  unfolding claimAnswer
+  pub claim-here : n ≤ r → {here : Bool} → here ≡ differsAt q n → claimed none here ≡ boundAnswer a b d m c k t bound
+  unfolding boundAnswer
   claim-here le {here} e =
       let i : here ≡ difference a b d m c k t (natAbs bound) = e ∙ differs-is p n ∙ ap (difference a b d m c k t) (p .end-is) in
       rw (p .passed, least-none p h le, ← i)

@@ -11,7 +11,7 @@ use Rattle.refusal.specs.Outcome.{Outcome, value, refused, refusedAt}
 use Rattle.constants.specs.Difference.{exactQuotient, deviceQuotient, apart, differs}
 use Rattle.constants.specs.Least.{Found, at, none, leastBelow}
 use Rattle.constants.specs.Limits.{outsideLimits, endOutside, boundOutside}
-use Rattle.constants.specs.Answers.{difference, Accepted, accepted, searchAnswer, claimed, claimAnswer}
+use Rattle.constants.specs.Answers.{difference, Accepted, accepted, differenceAnswer, claimed, boundAnswer}
 use Rattle.constants.proofs.Least.{NoneBelow, FirstAt, finds-at, finds-none, least-stays}
 
 -- the three answers of the claim, by what is found below the bound and whether there is a difference at it
@@ -64,56 +64,56 @@ module _ (a b d m c k t : ℤ) where
 
   -- the search
   module _ (end : ℤ) where
-    pub search-outside : (outsideLimits a b d m c k t || endOutside end) ≡ true → searchAnswer a b d m c k t end ≡ refused 9
-    unfolding searchAnswer
+    pub search-outside : (outsideLimits a b d m c k t || endOutside end) ≡ true → differenceAnswer a b d m c k t end ≡ refused 9
+    unfolding differenceAnswer
     search-outside h = rw h
 
     module _ (inside : (outsideLimits a b d m c k t || endOutside end) ≡ false) where
-      search-is : searchAnswer a b d m c k t end ≡ value (leastBelow D (natAbs end))
-      unfolding searchAnswer
+      search-is : differenceAnswer a b d m c k t end ≡ value (leastBelow D (natAbs end))
+      unfolding differenceAnswer
       search-is = rw inside
 
       -- a shorter search tells the answer, if it finds something
-      pub found-early : (l n : ℕ) → leastBelow D l ≡ at n → l ≤ natAbs end → searchAnswer a b d m c k t end ≡ value (at n)
+      pub found-early : (l n : ℕ) → leastBelow D l ≡ at n → l ≤ natAbs end → differenceAnswer a b d m c k t end ≡ value (at n)
       found-early l n e le = search-is ∙ ap value (least-stays D l (natAbs end) n e le)
 
       -- n exactly when n is below L and differs, and nothing smaller does
-      pub search-at-exactly : (n : ℕ) → (searchAnswer a b d m c k t end ≡ value (at n)) ↔ FirstAt D (natAbs end) n
+      pub search-at-exactly : (n : ℕ) → (differenceAnswer a b d m c k t end ≡ value (at n)) ↔ FirstAt D (natAbs end) n
       search-at-exactly n = (λ e. finds-at D (natAbs end) n .0 (cc (search-is)), λ f. search-is ∙ ap value (finds-at D (natAbs end) n .1 f))
 
       -- none exactly when nothing below L differs
-      pub search-none-exactly : (searchAnswer a b d m c k t end ≡ value none) ↔ NoneBelow D (natAbs end)
+      pub search-none-exactly : (differenceAnswer a b d m c k t end ≡ value none) ↔ NoneBelow D (natAbs end)
       search-none-exactly = (λ e. finds-none D (natAbs end) .0 (cc (search-is)), λ f. search-is ∙ ap value (finds-none D (natAbs end) .1 f))
 
   -- the claim
   module _ (bound : ℤ) where
-    pub claim-outside : (outsideLimits a b d m c k t || boundOutside bound) ≡ true → claimAnswer a b d m c k t bound ≡ refused 9
-    unfolding claimAnswer
+    pub claim-outside : (outsideLimits a b d m c k t || boundOutside bound) ≡ true → boundAnswer a b d m c k t bound ≡ refused 9
+    unfolding boundAnswer
     claim-outside h = rw h
 
     module _ (inside : (outsideLimits a b d m c k t || boundOutside bound) ≡ false) where
       abbrev B : ℕ
       B = natAbs bound
 
-      claim-is : claimAnswer a b d m c k t bound ≡ claimed (leastBelow D B) (D B)
-      unfolding claimAnswer
+      claim-is : boundAnswer a b d m c k t bound ≡ claimed (leastBelow D B) (D B)
+      unfolding boundAnswer
       claim-is = rw inside
 
-      same : {x : Outcome Accepted} → (claimAnswer a b d m c k t bound ≡ x) ↔ (claimed (leastBelow D B) (D B) ≡ x)
+      same : {x : Outcome Accepted} → (boundAnswer a b d m c k t bound ≡ x) ↔ (claimed (leastBelow D B) (D B) ≡ x)
       same = (λ e. sym claim-is ∙ e, λ e. claim-is ∙ e)
 
       -- accepted exactly when nothing below B differs, and B does
-      pub accepted-exactly : (claimAnswer a b d m c k t bound ≡ value accepted) ↔ (NoneBelow D B × (D B ≡ true))
+      pub accepted-exactly : (boundAnswer a b d m c k t bound ≡ value accepted) ↔ (NoneBelow D B × (D B ≡ true))
       accepted-exactly =
           let i = claimed-accepted (leastBelow D B) (D B) in
           (λ e. let p = i .0 (same .0 e) in (finds-none D B .0 (p .0), p .1), λ p. same .1 (i .1 (finds-none D B .1 (p .0), p .1)))
 
       -- 10 with n exactly when n is below B and differs, and nothing smaller does
-      pub below-exactly : (n : ℕ) → (claimAnswer a b d m c k t bound ≡ refusedAt 10 n) ↔ FirstAt D B n
+      pub below-exactly : (n : ℕ) → (boundAnswer a b d m c k t bound ≡ refusedAt 10 n) ↔ FirstAt D B n
       below-exactly n = Iff·trans same (Iff·trans (claimed-below (leastBelow D B) (D B) n) (finds-at D B n))
 
       -- 11 exactly when nothing up to B, and B included, differs
-      pub none-exactly : (claimAnswer a b d m c k t bound ≡ refused 11) ↔ ((n : ℕ) → n ≤ B → D n ≡ false)
+      pub none-exactly : (boundAnswer a b d m c k t bound ≡ refused 11) ↔ ((n : ℕ) → n ≤ B → D n ≡ false)
       none-exactly =
           let i = claimed-none (leastBelow D B) (D B) in (
             λ e. let p = i .0 (same .0 e) in λ n le. up-to n le (finds-none D B .0 (p .0)) (p .1) (decLt n B),
@@ -126,7 +126,7 @@ module _ (a b d m c k t : ℤ) where
 
       -- there is no fourth answer
       pub one-of-three :
-          (claimAnswer a b d m c k t bound ≡ value accepted)
-          ⊎ ((n : ℕ) × (claimAnswer a b d m c k t bound ≡ refusedAt 10 n))
-          ⊎ (claimAnswer a b d m c k t bound ≡ refused 11)
+          (boundAnswer a b d m c k t bound ≡ value accepted)
+          ⊎ ((n : ℕ) × (boundAnswer a b d m c k t bound ≡ refusedAt 10 n))
+          ⊎ (boundAnswer a b d m c k t bound ≡ refused 11)
       one-of-three = rw claim-is (claimed-three (leastBelow D B) (D B))

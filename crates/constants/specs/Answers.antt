@@ -18,8 +18,8 @@ difference a b d m c k t =
     differs (natAbs t) (exactQuotient (natAbs a) (natAbs b) (natAbs d)) (deviceQuotient (natAbs m) (natAbs c) (natAbs k))
 
 -- the search: 9, or "the least n below L with a difference, or 'none below L'"
-unfoldable pub searchAnswer : (a b d m c k t end : ℤ) → Outcome Found
-searchAnswer a b d m c k t end =
+unfoldable pub differenceAnswer : (a b d m c k t end : ℤ) → Outcome Found
+differenceAnswer a b d m c k t end =
     cond (outsideLimits a b d m c k t || endOutside end)
     (refused 9)
     (value (leastBelow (difference a b d m c k t) (natAbs end)))
@@ -35,8 +35,8 @@ claimed none true = value accepted
 claimed none false = refused 11
 
 -- the claim: 9, then 10 or 11, or accepted
-unfoldable pub claimAnswer : (a b d m c k t bound : ℤ) → Outcome Accepted
-claimAnswer a b d m c k t bound =
+unfoldable pub boundAnswer : (a b d m c k t bound : ℤ) → Outcome Accepted
+boundAnswer a b d m c k t bound =
     cond (outsideLimits a b d m c k t || boundOutside bound)
     (refused 9)
     (claimed (leastBelow (difference a b d m c k t) (natAbs bound)) (difference a b d m c k t (natAbs bound)))

@@ -2,7 +2,7 @@
 // a claim about it is right. Document 01, "Constants on trial".
 
 ghost use mathlib.Core.Path.{_≡_};
-ghost use Rattle.constants.specs.Answers.{searchAnswer, claimAnswer, searchOutcome, claimOutcome};
+ghost use Rattle.constants.specs.Answers.{differenceAnswer, boundAnswer, searchOutcome, claimOutcome};
 
 mod limits;
 mod quotients;
@@ -42,7 +42,7 @@ pub fn first_difference(
     t: i64,
     end: i64,
 ) -> SearchAnswer
-    ensures answer { λ r. ⌜ searchOutcome r ≡ searchAnswer a b d m c k t end ⌝ }
+    ensures answer { λ r. ⌜ searchOutcome r ≡ differenceAnswer a b d m c k t end ⌝ }
 {
     let Tested::Inside(q, end) = limits::test_limits(a, b, d, m, c, k, t, end, limits::END_LAST)
     else {
@@ -68,7 +68,7 @@ pub fn check_bound(
     t: i64,
     bound: i64,
 ) -> ClaimAnswer
-    ensures answer { λ r. ⌜ claimOutcome r ≡ claimAnswer a b d m c k t bound ⌝ }
+    ensures answer { λ r. ⌜ claimOutcome r ≡ boundAnswer a b d m c k t bound ⌝ }
 {
     let Tested::Inside(q, bound) = limits::test_limits(
         a,

@@ -3,7 +3,7 @@
 // first, and the weekday.
 
 use calendar::DateAnswer;
-use calendar::NumberAnswer;
+use refusal::NumberAnswer;
 
 const FIRST_COUNT: i64 = -719528;
 

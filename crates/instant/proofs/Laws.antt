@@ -17,7 +17,7 @@ use Rattle.calendar.proofs.Dates.{days-inside}
 use Rattle.calendar.proofs.Laws.{days-of-date-of-count, date-of-days}
 use Rattle.instant.specs.Units.{perSecond, perMinute, perHour, perDay}
 use Rattle.instant.specs.Instant.{dayOf, timeOf, fields, fieldsAt, fieldsOf}
-use Rattle.instant.specs.Answers.{badInstant, fieldsAnswer, joinAnswer}
+use Rattle.instant.specs.Answers.{badInstant, splitAnswer, joinAnswer}
 use Rattle.instant.specs.declared.Fields.{Fields}
 use Rattle.instant.proofs.Times.{natural, timeℕ, time-is, time-small, fields-back, fields-of-time}
 use Rattle.instant.proofs.Joined.{joined, join-accepted}
@@ -34,8 +34,8 @@ unfolding dayOf timeOf
 day-and-time instant = quotient-and-remainder instant perDay (lit< tt)
 
 -- an accepted instant
-split-accepted : (instant : ℤ) (f : Fields) → fieldsAnswer instant ≡ value f → (badInstant instant ≡ false) × (fieldsOf instant ≡ f)
-unfolding fieldsAnswer
+split-accepted : (instant : ℤ) (f : Fields) → splitAnswer instant ≡ value f → (badInstant instant ≡ false) × (fieldsOf instant ≡ f)
+unfolding splitAnswer
 split-accepted instant f = go (badInstant instant)
   where
     go : (t : Bool) → cond t (refused 4) (value (fieldsOf instant)) ≡ value f → (t ≡ false) × (fieldsOf instant ≡ f)
@@ -57,7 +57,7 @@ joins-back instant h =
 
 -- split, then join: the instant comes back
 pub split-join :
-    (instant : ℤ) (f : Fields) → fieldsAnswer instant ≡ value f →
+    (instant : ℤ) (f : Fields) → splitAnswer instant ≡ value f →
     joinAnswer (f .year) (f .month) (f .day) (f .hour) (f .minute) (f .second) (f .millisecond) ≡ value instant
 unfolding joinFields
 split-join instant f e =
@@ -67,8 +67,8 @@ split-join instant f e =
 -- join, then split: the fields come back
 pub join-split :
     (year month day hour minute second fraction instant : ℤ) → joinAnswer year month day hour minute second fraction ≡ value instant →
-    fieldsAnswer instant ≡ value (fields year month day hour minute second fraction)
-unfolding fieldsAnswer fieldsOf dayOf timeOf
+    splitAnswer instant ≡ value (fields year month day hour minute second fraction)
+unfolding splitAnswer fieldsOf dayOf timeOf
 join-split year month day hour minute second fraction instant e =
     let a = join-accepted year month day hour minute second fraction instant (sym e) in
     let t = natural hour minute second fraction (a .not-bad) in
@@ -77,14 +77,14 @@ join-split year month day hour minute second fraction instant e =
     let z = a .count in
     let i = days-inside year month day z (a .days) in
     let is : instant ≡ z *ℤ pos perDay +ℤ pos n = a .is ∙ ap (λ (y : ℤ). z *ℤ pos perDay +ℤ y) (time-is hour minute second fraction t) in
-    ap fieldsAnswer is ∙ ap (λ b. cond b (refused 4) (value (fieldsOf (z *ℤ pos perDay +ℤ pos n)))) (instant-inside z i n l)
+    ap splitAnswer is ∙ ap (λ b. cond b (refused 4) (value (fieldsOf (z *ℤ pos perDay +ℤ pos n)))) (instant-inside z i n l)
     ∙ ap value
     (ap₂ fieldsAt (ap dateOfCount (quotient-is perDay n l z) ∙ date-of-days year month day z (sym (a .days))) (remainder-is perDay n l z)
     ∙ fields-back hour minute second fraction t (date year month day))
 
 -- the date in the fields is that of the instant's day, which lies in the calendar's range
 pub split-date :
-    (instant : ℤ) (f : Fields) → fieldsAnswer instant ≡ value f →
+    (instant : ℤ) (f : Fields) → splitAnswer instant ≡ value f →
     (outside firstCount lastCount (dayOf instant) ≡ false) × (date (f .year) (f .month) (f .day) ≡ dateOfCount (dayOf instant))
 unfolding fieldsOf fieldsAt
 split-date instant f e =

@@ -11,9 +11,9 @@ use lib.IntN.{ℤ, pos}
 use lib.ListN.{length, getD, take, drop, set, drop-of-length-le, length-map, List·getD-map}
 use lib.Seq.{drop-cons, paste, paste-suc, take-all}
 use borrow.Author.Tests.{eq-eqb, ne-eqb, lt-ltb, le-ltb}
-use Rattle.refusal.specs.Outcome.{Outcome, value, refused, refusedAt}
+use Rattle.refusal.specs.Outcome.{Outcome, value, refused, refusedAt, afterCall}
 use Rattle.instant.specs.Instant.{dayOf}
-use Rattle.instant.specs.Answers.{badInstant, firstBad, indexAnswer, afterCall, indexDays}
+use Rattle.instant.specs.Answers.{badInstant, firstBad, indexDaysAnswer, indexDays}
 
 -- at place i of a list
 module _ (s : List ℤ) (i : ℕ) where
@@ -54,24 +54,24 @@ all-good (instant ∷ s) e (suc k) l = all-good s (none-here (badInstant instant
 
 -- what the tests of the index decide
 module _ (instants days : List ℤ) where
-  pub unequal : (length instants ≡ length days → ⊥) → indexAnswer instants days ≡ refused 12
-  unfolding indexAnswer
+  pub unequal : (length instants ≡ length days → ⊥) → indexDaysAnswer instants days ≡ refused 12
+  unfolding indexDaysAnswer
   unequal h = rw (ne-eqb (length instants) (length days) h)
 
   module _ (h : length instants ≡ length days) where
-    decided : (t : Bool) → ltb (firstBad instants) (length instants) ≡ t → indexAnswer instants days ≡ cond t (refusedAt 4 (firstBad instants)) (value (length instants))
-    unfolding indexAnswer
+    decided : (t : Bool) → ltb (firstBad instants) (length instants) ≡ t → indexDaysAnswer instants days ≡ cond t (refusedAt 4 (firstBad instants)) (value (length instants))
+    unfolding indexDaysAnswer
     decided t e = rw (eq-eqb (length instants) (length days) h, e)
 
-    pub bad-found : firstBad instants < length instants → indexAnswer instants days ≡ refusedAt 4 (firstBad instants)
+    pub bad-found : firstBad instants < length instants → indexDaysAnswer instants days ≡ refusedAt 4 (firstBad instants)
     bad-found l = decided true (lt-ltb (firstBad instants) (length instants) l)
 
-    pub none-found : length instants ≤ firstBad instants → indexAnswer instants days ≡ value (length instants)
+    pub none-found : length instants ≤ firstBad instants → indexDaysAnswer instants days ≡ value (length instants)
     none-found l = decided false (le-ltb (firstBad instants) (length instants) l)
 
-  pub held : (o : Outcome ℕ) → indexAnswer instants days ≡ o → indexDays instants days ≡ afterCall o (map dayOf instants) days
+  pub held : (o : Outcome ℕ) → indexDaysAnswer instants days ≡ o → indexDays instants days ≡ afterCall o (λ count. map dayOf instants) days
   unfolding indexDays
-  held o e = ap (λ o. afterCall o (map dayOf instants) days) e
+  held o e = ap (λ o. afterCall o (λ count. map dayOf instants) days) e
 
 -- a list that is filled from the front
 module _ (f : ℤ → ℤ) (s d : List ℤ) (h : length s ≡ length d) where

@@ -7,7 +7,7 @@ use lib.Dec.{eqb, ltb}
 use lib.IntN.{ℤ, pos}
 use lib.ListN.{length}
 use Rattle.refusal.specs.Numbers.{refusalNumber}
-use Rattle.refusal.specs.Outcome.{Outcome, value, refused, refusedAt}
+use Rattle.refusal.specs.Outcome.{Outcome, value, refused, refusedAt, afterCall}
 use Rattle.numbers.specs.Range.{outside}
 use Rattle.calendar.specs.Answers.{ofDate}
 use Rattle.instant.specs.Units.{perSecond, firstInstant, lastInstant}
@@ -18,7 +18,7 @@ use Rattle.instant.specs.declared.FieldsAnswer.the-variants as F
 use Rattle.instant.specs.declared.IndexAnswer.{IndexAnswer}
 use Rattle.instant.specs.declared.IndexAnswer.the-variants as I
 
--- what each case of an answer hands back; for a number it is `numberOutcome` of the calendar
+-- what each case of an answer hands back
 abbrev pub fieldsOutcome : FieldsAnswer → Outcome Fields
 fieldsOutcome (F.Value f) = value f
 fieldsOutcome (F.Refused r) = refused (refusalNumber r)
@@ -36,8 +36,8 @@ badInstant instant = outside firstInstant lastInstant instant
 unfoldable pub dayAnswer : (instant : ℤ) → Outcome ℤ
 dayAnswer instant = cond (badInstant instant) (refused 4) (value (dayOf instant))
 
-unfoldable pub fieldsAnswer : (instant : ℤ) → Outcome Fields
-fieldsAnswer instant = cond (badInstant instant) (refused 4) (value (fieldsOf instant))
+unfoldable pub splitAnswer : (instant : ℤ) → Outcome Fields
+splitAnswer instant = cond (badInstant instant) (refused 4) (value (fieldsOf instant))
 
 -- an hour outside 0..23, a minute or second outside 0..59, or a millisecond outside 0..999
 abbrev pub badTime : (hour minute second millisecond : ℤ) → Bool
@@ -57,17 +57,11 @@ firstBad [] = 0
 firstBad (instant ∷ instants) = cond (badInstant instant) 0 (suc (firstBad instants))
 
 -- 12 for lists of unequal length, then 4 with the place of the first instant outside the range; else how many days are written
-unfoldable pub indexAnswer : (instants days : List ℤ) → Outcome ℕ
-indexAnswer instants days =
+unfoldable pub indexDaysAnswer : (instants days : List ℤ) → Outcome ℕ
+indexDaysAnswer instants days =
     cond (not (eqb (length instants) (length days))) (refused 12)
     (cond (ltb (firstBad instants) (length instants)) (refusedAt 4 (firstBad instants)) (value (length instants)))
 
--- what a lent list holds after a call: what an accepted call writes, and on every refusal what it held before
-abbrev pub afterCall : {A : Type 0} → Outcome A → (written before : List ℤ) → List ℤ
-afterCall (value a) written before = written
-afterCall (refused number) written before = before
-afterCall (refusedAt number place) written before = before
-
 -- what the second list holds after the call: the day of each instant, in order
 unfoldable pub indexDays : (instants days : List ℤ) → List ℤ
-indexDays instants days = afterCall (indexAnswer instants days) (map dayOf instants) days
+indexDays instants days = afterCall (indexDaysAnswer instants days) (λ count. map dayOf instants) days

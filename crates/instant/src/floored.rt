@@ -9,17 +9,17 @@ ghost use lib.Signed.{ltZ};
 ghost use Rattle.instant.specs.Instant.{dayOf, timeOf};
 
 // The day count.
-pub fn day(ms: i64) -> i64
-    ensures { λ r. ⌜ r ≡ dayOf ms ⌝ }
+pub fn day(instant: i64) -> i64
+    ensures { λ r. ⌜ r ≡ dayOf instant ⌝ }
 {
-    ms / PER_DAY - borrowed(ms % PER_DAY)
+    instant / PER_DAY - borrowed(instant % PER_DAY)
 }
 
 // The time of day, from 0 on.
-pub fn time(ms: i64) -> i64
-    ensures { λ r. ⌜ r ≡ pos (timeOf ms) ⌝ }
+pub fn time(instant: i64) -> i64
+    ensures { λ r. ⌜ r ≡ pos (timeOf instant) ⌝ }
 {
-    let rest = ms % PER_DAY;
+    let rest = instant % PER_DAY;
     rest + PER_DAY * borrowed(rest)
 }
 

@@ -1,7 +1,6 @@
 // The two passes over a recording index: the tests, then the stores.
 
 use super::floored;
-use super::range::outside;
 use super::units::FIRST_INSTANT;
 use super::units::LAST_INSTANT;
 ghost use mathlib.Core.Path.{_≡_};
@@ -16,7 +15,7 @@ pub fn first_bad(instants: &[i64]) -> usize
 {
     let mut i = 0;
     while i < instants.len() {
-        if outside(FIRST_INSTANT, LAST_INSTANT, instants[i]) {
+        if numbers::outside(FIRST_INSTANT, LAST_INSTANT, instants[i]) {
             return i;
         }
         i += 1;

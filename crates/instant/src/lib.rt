@@ -1,12 +1,12 @@
 // Instants, their fields and the recording index (document 01, "Instants and the two labels").
 //
-//     day_of_instant(ms)                                                        day count       refusal 4
-//     split_instant(ms)                                                         fields          refusal 4
+//     day_of_instant(instant)                                                        day count       refusal 4
+//     split_instant(instant)                                                         fields          refusal 4
 //     join_instant(year, month, day, hour, minute, second, millisecond)         instant         refusals 1, 2, 3, then 5
 //     index_days(instants, days)                                                days written    refusals 12, then 4 with the place
 
 use calendar::DateAnswer;
-use calendar::NumberAnswer;
+use refusal::NumberAnswer;
 use refusal::Refusal;
 use units::FIRST_INSTANT;
 use units::LAST_INSTANT;
@@ -14,13 +14,12 @@ use units::PER_DAY;
 
 mod floored;
 mod index;
-mod range;
 mod time_of_day;
 mod units;
 
 ghost use mathlib.Core.Path.{_≡_};
-ghost use Rattle.calendar.specs.Answers.{numberOutcome};
-ghost use Rattle.instant.specs.Answers.{fieldsOutcome, indexOutcome, dayAnswer, fieldsAnswer, joinAnswer, indexAnswer, indexDays};
+ghost use Rattle.refusal.specs.Outcome.{numberOutcome};
+ghost use Rattle.instant.specs.Answers.{fieldsOutcome, indexOutcome, dayAnswer, splitAnswer, joinAnswer, indexDaysAnswer, indexDays};
 
 pub struct Fields {
     pub year: i64,
@@ -44,26 +43,26 @@ pub enum IndexAnswer {
 }
 
 // The day count of an instant.
-pub fn day_of_instant(ms: i64) -> NumberAnswer
-    ensures { λ r. ⌜ numberOutcome r ≡ dayAnswer ms ⌝ }
+pub fn day_of_instant(instant: i64) -> NumberAnswer
+    ensures { λ r. ⌜ numberOutcome r ≡ dayAnswer instant ⌝ }
 {
-    if range::outside(FIRST_INSTANT, LAST_INSTANT, ms) {
+    if numbers::outside(FIRST_INSTANT, LAST_INSTANT, instant) {
         return NumberAnswer::Refused(Refusal::OutOfRange);
     }
-    NumberAnswer::Value(floored::day(ms))
+    NumberAnswer::Value(floored::day(instant))
 }
 
 // The date and the time of day of an instant.
-pub fn split_instant(ms: i64) -> FieldsAnswer
-    ensures { λ r. ⌜ fieldsOutcome r ≡ fieldsAnswer ms ⌝ }
+pub fn split_instant(instant: i64) -> FieldsAnswer
+    ensures { λ r. ⌜ fieldsOutcome r ≡ splitAnswer instant ⌝ }
 {
-    if range::outside(FIRST_INSTANT, LAST_INSTANT, ms) {
+    if numbers::outside(FIRST_INSTANT, LAST_INSTANT, instant) {
         return FieldsAnswer::Refused(Refusal::OutOfRange);
     }
-    match calendar::civil_from_days(floored::day(ms)) {
+    match calendar::civil_from_days(floored::day(instant)) {
         DateAnswer::Value(date) => FieldsAnswer::Value(time_of_day::fields_at(
             date,
-            floored::time(ms) as u64,
+            floored::time(instant) as u64,
         )),
         DateAnswer::Refused(r) => FieldsAnswer::Refused(r),
     }
@@ -94,7 +93,7 @@ pub fn join_instant(
 
 // Writes the day count of each instant, and answers how many; refused, it writes nothing.
 pub fn index_days(instants: &[i64], days: &mut [i32]) -> IndexAnswer
-    ensures answer { λ r. ⌜ indexOutcome r ≡ indexAnswer (now (instants .entry)) (now (days .entry)) ⌝ }
+    ensures answer { λ r. ⌜ indexOutcome r ≡ indexDaysAnswer (now (instants .entry)) (now (days .entry)) ⌝ }
     ensures days { λ r. ⌜ now (days .exit) ≡ indexDays (now (instants .entry)) (now (days .entry)) ⌝ }
 {
     let count = instants.len();

@@ -1,18 +1,17 @@
 // The time of day and its fields: document 01, "Instants and the two labels".
 
-use super::range::outside;
 use super::units::PER_HOUR;
 use super::units::PER_MINUTE;
 use super::units::PER_SECOND;
 use crate::Fields;
 use calendar::Date;
-use calendar::NumberAnswer;
+use refusal::NumberAnswer;
 use refusal::Refusal;
 ghost use mathlib.Core.Path.{_≡_};
 ghost use Prim.Native.Nat.{_+_, _*_, _≤_, _<_};
 ghost use Rattle.instant.specs.Units.{perSecond, perMinute, perHour, perDay};
 ghost use Rattle.instant.specs.Instant.{fieldsAt};
-ghost use Rattle.calendar.specs.Answers.{numberOutcome};
+ghost use Rattle.refusal.specs.Outcome.{numberOutcome};
 ghost use Rattle.instant.specs.Checked.{timeAnswer};
 
 // The fields of a date and a time of day.
@@ -35,16 +34,16 @@ pub fn fields_at(date: Date, time: u64) -> Fields
 pub fn check_time(hour: i64, minute: i64, second: i64, millisecond: i64) -> NumberAnswer
     ensures { λ r. ⌜ numberOutcome r ≡ timeAnswer hour minute second millisecond ⌝ }
 {
-    if outside(0, 23, hour) {
+    if numbers::outside(0, 23, hour) {
         return NumberAnswer::Refused(Refusal::TimeOutOfRange);
     }
-    if outside(0, 59, minute) {
+    if numbers::outside(0, 59, minute) {
         return NumberAnswer::Refused(Refusal::TimeOutOfRange);
     }
-    if outside(0, 59, second) {
+    if numbers::outside(0, 59, second) {
         return NumberAnswer::Refused(Refusal::TimeOutOfRange);
     }
-    if outside(0, PER_SECOND as i64 - 1, millisecond) {
+    if numbers::outside(0, PER_SECOND as i64 - 1, millisecond) {
         return NumberAnswer::Refused(Refusal::TimeOutOfRange);
     }
     NumberAnswer::Value(

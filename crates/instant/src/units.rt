@@ -1,5 +1,8 @@
 // The units of an instant and its range: document 01, "Instants and the two labels".
 
+use calendar::range::FIRST_COUNT;
+use calendar::range::LAST_COUNT;
+
 // An instant counts milliseconds.
 pub const PER_SECOND: u64 = 1000;
 
@@ -10,6 +13,6 @@ pub const PER_HOUR: u64 = 60 * PER_MINUTE;
 pub const PER_DAY: i64 = (24 * PER_HOUR) as i64;
 
 // The first and the last instant of the calendar's days.
-pub const FIRST_INSTANT: i64 = -62167219200000;
+pub const FIRST_INSTANT: i64 = FIRST_COUNT * PER_DAY;
 
-pub const LAST_INSTANT: i64 = 253402300799999;
+pub const LAST_INSTANT: i64 = LAST_COUNT * PER_DAY + (PER_DAY - 1);

@@ -6,7 +6,7 @@ use native.Mathlib.Numerals.{add-one}
 use native.Mathlib.Omega.{arith}
 use lib.ListN.{length, getD, set, take, drop}
 use Rattle.refusal.specs.Outcome.{Outcome, value, refused}
-use Rattle.labels.specs.Written.{writeAnswer, writtenBuffer}
+use Rattle.labels.specs.Written.{bytesWritten, writtenBuffer}
 use lib.Seq.{take-suc, drop-cons, set-at, append-snoc, length-take-le}
 
 -- one byte more
@@ -22,7 +22,7 @@ more buffer label i h l =
 
 -- what a writer does for an outcome: what it answers, and what the buffer holds then
 abbrev pub Writes : Outcome (List ℕ) → (before after : List ℕ) → Outcome ℕ → Type 0
-Writes o before after r = (r ≡ writeAnswer o before) × (after ≡ writtenBuffer o before)
+Writes o before after r = (r ≡ bytesWritten o before) × (after ≡ writtenBuffer o before)
 
 pub renamed :
     (before : List ℕ) {label after : List ℕ} {o : Outcome (List ℕ)} {r : Outcome ℕ} → value label ≡ o →

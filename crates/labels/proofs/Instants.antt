@@ -16,7 +16,7 @@ use Rattle.calendar.specs.declared.Date.{Date}
 use Rattle.calendar.specs.Count.{countOfDate}
 use Rattle.calendar.proofs.Tests.{accepted-valid}
 use Rattle.calendar.proofs.Dates as calendar
-use Rattle.instant.specs.Answers.{fieldsAnswer, joinAnswer}
+use Rattle.instant.specs.Answers.{splitAnswer, joinAnswer}
 use Rattle.instant.specs.declared.Fields.{Fields}
 use Rattle.instant.proofs.Times as times
 use Rattle.instant.proofs.Joined.{join-accepted}
@@ -28,10 +28,10 @@ use Rattle.labels.specs.Pairs.{Narrow, NarrowFields, spelledText}
 wider : {k : ℕ} (l : ℕ) {z : ℤ} → Within 0 k z → k ≤ l → outside (pos 0) (pos l) z ≡ false
 wider l {z} w h = let s = w .high in ap (outside (pos 0) (pos l)) (w .is) ∙ inside-pos 0 l (natAbs z) (omega arith) (omega arith)
 
-pub joined-narrow : (year month day hour minute second millisecond ms : ℤ) → joinAnswer year month day hour minute second millisecond ≡ value ms → NarrowFields (record { year = year; month = month; day = day; hour = hour; minute = minute; second = second; millisecond = millisecond })
+pub joined-narrow : (year month day hour minute second millisecond instant : ℤ) → joinAnswer year month day hour minute second millisecond ≡ value instant → NarrowFields (record { year = year; month = month; day = day; hour = hour; minute = minute; second = second; millisecond = millisecond })
 unfolding daysAnswer
-joined-narrow year month day hour minute second millisecond ms e =
-    let a = join-accepted year month day hour minute second millisecond ms (sym e) in
+joined-narrow year month day hour minute second millisecond instant e =
+    let a = join-accepted year month day hour minute second millisecond instant (sym e) in
     let v = accepted-valid year month day countOfDate (a .count) (a .days) in
     let n = calendar.natural (date year month day) v in
     let c = times.natural hour minute second millisecond (a .not-bad) in
@@ -45,8 +45,8 @@ joined-narrow year month day hour minute second millisecond ms e =
       millisecond-within = wider 999 (c .fraction-within) (omega arith);
     }
 
-pub fields-narrow : (ms : ℤ) (f : Fields) → fieldsAnswer ms ≡ value f → NarrowFields f
-fields-narrow ms f e = joined-narrow (f .year) (f .month) (f .day) (f .hour) (f .minute) (f .second) (f .millisecond) ms (split-join ms f e)
+pub fields-narrow : (instant : ℤ) (f : Fields) → splitAnswer instant ≡ value f → NarrowFields f
+fields-narrow instant f e = joined-narrow (f .year) (f .month) (f .day) (f .hour) (f .minute) (f .second) (f .millisecond) instant (split-join instant f e)
 
 module _ (f : Fields) (n : NarrowFields f) where
   pub narrow-read :

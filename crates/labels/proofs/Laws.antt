@@ -10,7 +10,7 @@ use lib.IntN.{ℤ, pos, natAbs}
 use lib.ListN.{length, take, drop, length-append}
 use lib.Seq.{take-at, drop-at}
 use borrow.Author.Tests.{ltb-true, ltb-false}
-use Rattle.refusal.specs.Outcome.{value, refused}
+use Rattle.refusal.specs.Outcome.{mapValue, value, refused}
 use Rattle.numbers.specs.Range.{outside}
 use Rattle.numbers.proofs.Integers.{outside-no}
 use Rattle.numbers.proofs.Between.{within, inside-pos}
@@ -18,11 +18,11 @@ use Rattle.calendar.specs.Range.{firstYear, lastYear}
 use Rattle.calendar.specs.Gregorian.{monthLength, date}
 use Rattle.calendar.specs.Answers.{ofDate}
 use Rattle.instant.specs.Instant.{fieldsOf, timeOfFields, instantAt}
-use Rattle.instant.specs.Answers.{badInstant, badTime, fieldsAnswer, joinAnswer}
+use Rattle.instant.specs.Answers.{badInstant, badTime, splitAnswer, joinAnswer}
 use Rattle.instant.specs.declared.Fields.{Fields}
 use Rattle.instant.proofs.Laws.{split-join, join-split}
 use Rattle.labels.specs.Digits.{digits, number, numberAt, fits}
-use Rattle.labels.specs.Rfc3339.{decimals, dateText, timeText, dateShape, timeShape, labelText, labelOf, instantLabel, readFields, readAnswer}
+use Rattle.labels.specs.Rfc3339.{decimals, dateText, timeText, dateShape, timeShape, labelText, instantLabel, readFields, readAnswer}
 use Rattle.labels.specs.Pairs.{NarrowFields}
 use Rattle.labels.specs.Webvtt.{lastPosition, hourDigits, afterHours, positionText, positionLabel}
 use Rattle.labels.proofs.Decimal.{number-digits, number-below, length-digits}
@@ -143,30 +143,30 @@ label-fits f =
     (date-fits (natAbs (f .year)) (natAbs (f .month)) (natAbs (f .day)))
     (time-fits decimals (natAbs (f .hour)) (natAbs (f .minute)) (natAbs (f .second)) (natAbs (f .millisecond)))
 
-fields-read : (ms : ℤ) (f : Fields) → fieldsAnswer ms ≡ value f → readAnswer (labelText f) ≡ value ms
+fields-read : (instant : ℤ) (f : Fields) → splitAnswer instant ≡ value f → readAnswer (labelText f) ≡ value instant
 unfolding readAnswer
-fields-read ms f e =
+fields-read instant f e =
     ap (λ t. cond t (readFields (labelText f) (drop 10 (labelText f))) (refused 8)) (label-fits f)
-    ∙ fields-back f (fields-narrow ms f e) ∙ split-join ms f e
+    ∙ fields-back f (fields-narrow instant f e) ∙ split-join instant f e
 
 -- the label of an instant in the range is that of its fields
-pub instant-labelled : (ms : ℤ) → badInstant ms ≡ false → instantLabel ms ≡ value (labelText (fieldsOf ms))
-unfolding instantLabel fieldsAnswer
-instant-labelled ms h = ap (λ t. labelOf (cond t (refused 4) (value (fieldsOf ms)))) h
+pub instant-labelled : (instant : ℤ) → badInstant instant ≡ false → instantLabel instant ≡ value (labelText (fieldsOf instant))
+unfolding instantLabel splitAnswer
+instant-labelled instant h = ap (λ t. mapValue labelText (cond t (refused 4) (value (fieldsOf instant)))) h
 
 -- writing then reading gives the instant back, for every instant in the range
-pub write-read : (ms : ℤ) → badInstant ms ≡ false → readAnswer (labelText (fieldsOf ms)) ≡ value ms
-unfolding fieldsAnswer
-write-read ms h = fields-read ms (fieldsOf ms) (ap (λ t. cond t (refused 4) (value (fieldsOf ms))) h)
+pub write-read : (instant : ℤ) → badInstant instant ≡ false → readAnswer (labelText (fieldsOf instant)) ≡ value instant
+unfolding splitAnswer
+write-read instant h = fields-read instant (fieldsOf instant) (ap (λ t. cond t (refused 4) (value (fieldsOf instant))) h)
 
 -- an accepted label has the shape, and its fields make the instant
 read-accepted :
-    (label : List ℕ) (ms : ℤ) → readAnswer label ≡ value ms →
-    (fits (dateShape ++ timeShape decimals) label ≡ true) × (readFields label (drop 10 label) ≡ value ms)
+    (label : List ℕ) (instant : ℤ) → readAnswer label ≡ value instant →
+    (fits (dateShape ++ timeShape decimals) label ≡ true) × (readFields label (drop 10 label) ≡ value instant)
 unfolding readAnswer
-read-accepted label ms = go (fits (dateShape ++ timeShape decimals) label)
+read-accepted label instant = go (fits (dateShape ++ timeShape decimals) label)
   where
-    go : (t : Bool) → cond t (readFields label (drop 10 label)) (refused 8) ≡ value ms → (t ≡ true) × (readFields label (drop 10 label) ≡ value ms)
+    go : (t : Bool) → cond t (readFields label (drop 10 label)) (refused 8) ≡ value instant → (t ≡ true) × (readFields label (drop 10 label) ≡ value instant)
     go true e = (refl, e)
     go false e = absurd (let z : _≡_ {A = ℕ} 0 1 = cc in omega arith)
 
@@ -180,14 +180,14 @@ label-back label h =
     sym (d .0 ∙ ap (λ l. dateText (numberAt 0 4 label) (numberAt 5 2 label) (numberAt 8 2 label) ++ l) (time-back decimals (drop 10 label) (d .1)))
 
 -- reading an accepted label then writing gives the same bytes
-pub read-write : (label : List ℕ) (ms : ℤ) → readAnswer label ≡ value ms → instantLabel ms ≡ value label
+pub read-write : (label : List ℕ) (instant : ℤ) → readAnswer label ≡ value instant → instantLabel instant ≡ value label
 unfolding instantLabel
-read-write label ms e =
-    let a = read-accepted label ms e in
+read-write label instant e =
+    let a = read-accepted label instant e in
     let t = drop 10 label in
-    ap labelOf
+    ap (mapValue labelText)
     (join-split (pos (numberAt 0 4 label)) (pos (numberAt 5 2 label)) (pos (numberAt 8 2 label)) (pos (numberAt 1 2 t)) (pos (numberAt 4 2 t))
-    (pos (numberAt 7 2 t)) (pos (numberAt 10 decimals t)) ms (a .1))
+    (pos (numberAt 7 2 t)) (pos (numberAt 10 decimals t)) instant (a .1))
     ∙ ap value (label-back label (a .0))
 
 -- an instant label has 24 bytes

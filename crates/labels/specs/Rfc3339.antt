@@ -5,8 +5,8 @@ use mathlib.Core.Bool.{cond}
 use mathlib.Core.List.{List, [], _∷_, _++_}
 use lib.IntN.{ℤ, pos, natAbs}
 use lib.ListN.{drop}
-use Rattle.refusal.specs.Outcome.{Outcome, value, refused, refusedAt}
-use Rattle.instant.specs.Answers.{fieldsAnswer, joinAnswer}
+use Rattle.refusal.specs.Outcome.{Outcome, refused, mapValue}
+use Rattle.instant.specs.Answers.{splitAnswer, joinAnswer}
 use Rattle.instant.specs.declared.Fields.{Fields}
 use Rattle.labels.specs.Digits.{digits, numberAt, fits}
 
@@ -27,14 +27,9 @@ labelText f =
     dateText (natAbs (f .year)) (natAbs (f .month)) (natAbs (f .day))
     ++ timeText decimals (natAbs (f .hour)) (natAbs (f .minute)) (natAbs (f .second)) (natAbs (f .millisecond))
 
-abbrev pub labelOf : Outcome Fields → Outcome (List ℕ)
-labelOf (value f) = value (labelText f)
-labelOf (refused n) = refused n
-labelOf (refusedAt n place) = refusedAt n place
-
 -- the label of an instant: that of its fields, or 4 for an instant outside the range
-unfoldable pub instantLabel : (ms : ℤ) → Outcome (List ℕ)
-instantLabel ms = labelOf (fieldsAnswer ms)
+unfoldable pub instantLabel : (instant : ℤ) → Outcome (List ℕ)
+instantLabel instant = mapValue labelText (splitAnswer instant)
 
 -- the shape of a label is that of zeros: digits where these have digits, and the same marks
 abbrev pub dateShape : List ℕ

@@ -23,5 +23,5 @@ abbrev pub positionText : (n : ℕ) → List ℕ
 positionText n = digits (n / 3600000) (hourDigits (n / 3600000)) ++ afterHours n
 
 -- 6 for a position outside 0..359999999999, else its label
-unfoldable pub positionLabel : (ms : ℤ) → Outcome (List ℕ)
-positionLabel ms = cond (outside (pos 0) lastPosition ms) (refused 6) (value (positionText (natAbs ms)))
+unfoldable pub positionLabel : (position : ℤ) → Outcome (List ℕ)
+positionLabel position = cond (outside (pos 0) lastPosition position) (refused 6) (value (positionText (natAbs position)))

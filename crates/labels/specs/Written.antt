@@ -6,7 +6,7 @@ use mathlib.Core.List.{List, _++_}
 use lib.Dec.{ltb}
 use lib.ListN.{length, drop}
 use Rattle.refusal.specs.Numbers.{refusalNumber}
-use Rattle.refusal.specs.Outcome.{Outcome, value, refused, refusedAt}
+use Rattle.refusal.specs.Outcome.{Outcome, value, refused, andThen, mapValue, afterCall}
 use Rattle.labels.specs.declared.WriteAnswer.{WriteAnswer}
 use Rattle.labels.specs.declared.WriteAnswer.the-variants as W
 
@@ -15,14 +15,14 @@ abbrev pub writeOutcome : WriteAnswer → Outcome ℕ
 writeOutcome (W.Written n) = value n
 writeOutcome (W.Refused r) = refused (refusalNumber r)
 
--- the refusal of a label; else 7 for a buffer shorter than the label; else the number of bytes written
-abbrev pub writeAnswer : Outcome (List ℕ) → (buffer : List ℕ) → Outcome ℕ
-writeAnswer (value label) buffer = cond (ltb (length buffer) (length label)) (refused 7) (value (length label))
-writeAnswer (refused n) buffer = refused n
-writeAnswer (refusedAt n place) buffer = refusedAt n place
+-- the label that is written: 7 for a buffer shorter than the label
+abbrev pub fitted : Outcome (List ℕ) → (buffer : List ℕ) → Outcome (List ℕ)
+fitted label buffer = andThen label (λ text. cond (ltb (length buffer) (length text)) (refused 7) (value text))
+
+-- the refusals of the label, then 7; else the number of bytes written
+abbrev pub bytesWritten : Outcome (List ℕ) → (buffer : List ℕ) → Outcome ℕ
+bytesWritten label buffer = mapValue length (fitted label buffer)
 
 -- the buffer after the call: the label in front and the rest as it was; all as it was on a refusal
 abbrev pub writtenBuffer : Outcome (List ℕ) → (buffer : List ℕ) → List ℕ
-writtenBuffer (value label) buffer = cond (ltb (length buffer) (length label)) buffer (label ++ drop (length label) buffer)
-writtenBuffer (refused n) buffer = buffer
-writtenBuffer (refusedAt n place) buffer = buffer
+writtenBuffer label buffer = afterCall (fitted label buffer) (λ text. text ++ drop (length text) buffer) buffer

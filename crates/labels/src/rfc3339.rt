@@ -7,15 +7,15 @@ use crate::digits::COLON;
 use crate::digits::POINT;
 use crate::digits::Values;
 use crate::digits::ZERO;
-use calendar::NumberAnswer;
 use instant::Fields;
 use instant::FieldsAnswer;
+use refusal::NumberAnswer;
 use refusal::Refusal;
 ghost use mathlib.Core.Path.{_≡_};
 ghost use Prim.Native.Nat.{_+_, _≤_};
 ghost use lib.ListN.{length};
-ghost use Rattle.calendar.specs.Answers.{numberOutcome};
-ghost use Rattle.labels.specs.Written.{writeOutcome, writeAnswer, writtenBuffer};
+ghost use Rattle.refusal.specs.Outcome.{numberOutcome};
+ghost use Rattle.labels.specs.Written.{writeOutcome, bytesWritten, writtenBuffer};
 ghost use Rattle.labels.specs.Rfc3339.{labelText, instantLabel, readAnswer};
 ghost use Rattle.labels.specs.Pairs.{Narrow, NarrowFields, spelledText, readDate, readTime};
 
@@ -42,11 +42,11 @@ const LENGTH: usize = 21 + DECIMALS;
 const TIME: usize = 10;
 
 // Writes the label of an instant. 4 for an instant outside the range, then 7 for a buffer shorter than the label.
-pub fn write_instant(ms: i64, out: &mut [u8]) -> WriteAnswer
-    ensures answer { λ r. ⌜ writeOutcome r ≡ writeAnswer (instantLabel ms) (now (out .entry)) ⌝ }
-    ensures buffer { λ r. ⌜ now (out .exit) ≡ writtenBuffer (instantLabel ms) (now (out .entry)) ⌝ }
+pub fn write_instant(instant: i64, out: &mut [u8]) -> WriteAnswer
+    ensures answer { λ r. ⌜ writeOutcome r ≡ bytesWritten (instantLabel instant) (now (out .entry)) ⌝ }
+    ensures buffer { λ r. ⌜ now (out .exit) ≡ writtenBuffer (instantLabel instant) (now (out .entry)) ⌝ }
 {
-    match instant::split_instant(ms) {
+    match instant::split_instant(instant) {
         FieldsAnswer::Value(fields) => {
             let label = label_of(fields);
             buffer::put(out, &label)

@@ -10,7 +10,7 @@ use refusal::Refusal;
 ghost use mathlib.Core.Path.{_≡_};
 ghost use Prim.Native.Nat.{_<_};
 ghost use mathlib.Core.List.{_++_};
-ghost use Rattle.labels.specs.Written.{writeOutcome, writeAnswer, writtenBuffer};
+ghost use Rattle.labels.specs.Written.{writeOutcome, bytesWritten, writtenBuffer};
 ghost use Rattle.labels.specs.Webvtt.{positionLabel};
 ghost use Rattle.labels.specs.Digits.{digits};
 ghost use Rattle.labels.specs.Pairs.{textAfter};
@@ -24,17 +24,17 @@ const MS_PER_SECOND: u32 = 1000;
 const SECONDS_PER_MINUTE: u32 = 60;
 
 // Writes the label of a position. 6 for a position outside the range, then 7 for a buffer shorter than the label.
-pub fn write_position(ms: i64, out: &mut [u8]) -> WriteAnswer
-    ensures answer { λ r. ⌜ writeOutcome r ≡ writeAnswer (positionLabel ms) (now (out .entry)) ⌝ }
-    ensures buffer { λ r. ⌜ now (out .exit) ≡ writtenBuffer (positionLabel ms) (now (out .entry)) ⌝ }
+pub fn write_position(position: i64, out: &mut [u8]) -> WriteAnswer
+    ensures answer { λ r. ⌜ writeOutcome r ≡ bytesWritten (positionLabel position) (now (out .entry)) ⌝ }
+    ensures buffer { λ r. ⌜ now (out .exit) ≡ writtenBuffer (positionLabel position) (now (out .entry)) ⌝ }
 {
-    if ms < 0 {
+    if position < 0 {
         return WriteAnswer::Refused(Refusal::PositionOutOfRange);
     }
-    if ms > LAST_POSITION {
+    if position > LAST_POSITION {
         return WriteAnswer::Refused(Refusal::PositionOutOfRange);
     }
-    let n = ms as u64;
+    let n = position as u64;
     let hours = (n / MS_PER_HOUR) as u32;
     let rest = (n % MS_PER_HOUR) as u32;
     if hours < 100 {

@@ -1,1 +1,1 @@
-pub mod Negated
+pub mod Returned

@@ -1,41 +1,192 @@
-// The C interface of the player shell: include/ovenquill.h declares these two calls.
+// The C interface: include/ovenquill.h declares these calls, and says of each what it is for C. Each returns its value, or the
+// refusal number negated; a value that may be below zero, or is more than one number, goes to a place, and the call then returns 0.
+//
+//     ovenquill_days_from_civil(year, month, day, days)                       0, and the day count
+//     ovenquill_civil_from_days(days, date)                                   0, and year, month, day
+//     ovenquill_weekday(days)                                                 the weekday
+//     ovenquill_is_leap(year)                                                 1 leap, 0 not
+//     ovenquill_last_day_of_month(year, month)                                the month's length
+//     ovenquill_day_of_year(year, month, day)                                 1 to 366
+//     ovenquill_add_days(year, month, day, days, date)                        0, and year, month, day
+//     ovenquill_day_of_instant(instant, days)                                 0, and the day count
+//     ovenquill_split_instant(instant, fields)                                0, and year to millisecond
+//     ovenquill_join_instant(year, .., millisecond, instant)                  0, and the instant
+//     ovenquill_index_days(instants, days, place)                             the days written, or the place of a bad instant
+//     ovenquill_write_instant(instant, out)                                   the bytes written
+//     ovenquill_read_instant(label, instant)                                  0, and the instant
+//     ovenquill_write_position(position, out)                                 the bytes written
+//     ovenquill_first_difference(a, b, d, m, c, k, t, end)                    the least n, or `end`
+//     ovenquill_check_bound(a, b, d, m, c, k, t, bound, least)                0 accepted, or the least n of a refusal 10
 
-use calendar::NumberAnswer;
-use labels::WriteAnswer;
-use refusal::Refusal;
 ghost use mathlib.Core.Path.{_≡_};
-ghost use lib.IntN.{pos, negℤ};
-ghost use Rattle.refusal.specs.Numbers.{refusalNumber};
-ghost use Rattle.calendar.specs.Answers.{weekdayAnswer};
-ghost use Rattle.labels.specs.Written.{writeAnswer, writtenBuffer};
-ghost use Rattle.labels.specs.Rfc3339.{instantLabel};
-ghost use Rattle.player.specs.Negated.{numberOrNegated, bytesOrNegated};
+ghost use Rattle.refusal.specs.Outcome.{afterCall};
+ghost use Rattle.calendar.specs.Answers.{daysAnswer, civilAnswer, weekdayAnswer, leapAnswer, lastDayAnswer, dayOfYearAnswer, addDaysAnswer};
+ghost use Rattle.instant.specs.Answers.{dayAnswer, splitAnswer, joinAnswer, indexDaysAnswer, indexDays};
+ghost use Rattle.labels.specs.Written.{bytesWritten, writtenBuffer};
+ghost use Rattle.labels.specs.Rfc3339.{instantLabel, readAnswer};
+ghost use Rattle.labels.specs.Webvtt.{positionLabel};
+ghost use Rattle.constants.specs.Answers.{differenceAnswer, boundAnswer};
+ghost use Rattle.player.specs.Returned.{returned, returnedCount, returnedFlag, returnedDone, returnedFound, dateNumbers, fieldsNumbers, afterRefusal};
 
-// The weekday of a day count, 0 to 6, or the refusal number negated.
+mod give;
+
+#[no_mangle]
+pub extern "C" fn ovenquill_days_from_civil(year: i64, month: i64, day: i64, days: &mut i64) -> i64
+    ensures answer { λ r. ⌜ r ≡ returnedDone (daysAnswer year month day) ⌝ }
+    ensures days { λ r. ⌜ now (days .exit) ≡ afterCall (daysAnswer year month day) (λ n. n) (now (days .entry)) ⌝ }
+{
+    give::number(calendar::days_from_civil(year, month, day), days)
+}
+
+#[no_mangle]
+pub extern "C" fn ovenquill_civil_from_days(days: i64, date: &mut [i64; 3]) -> i64
+    ensures answer { λ r. ⌜ r ≡ returnedDone (civilAnswer days) ⌝ }
+    ensures date { λ r. ⌜ now (date .exit) ≡ afterCall (civilAnswer days) dateNumbers (now (date .entry)) ⌝ }
+{
+    give::date(calendar::civil_from_days(days), date)
+}
+
 #[no_mangle]
 pub extern "C" fn ovenquill_weekday(days: i64) -> i64
-    ensures { λ r. ⌜ r ≡ numberOrNegated (weekdayAnswer days) ⌝ }
+    ensures { λ r. ⌜ r ≡ returned (weekdayAnswer days) ⌝ }
 {
-    match calendar::weekday_from_days(days) {
-        NumberAnswer::Value(weekday) => weekday,
-        NumberAnswer::Refused(r) => negated(r),
-    }
+    give::returned_number(calendar::weekday_from_days(days))
 }
 
-// Writes the label of an instant: the bytes written, or the refusal number negated.
 #[no_mangle]
-pub extern "C" fn ovenquill_write_instant(ms: i64, out: &mut [u8]) -> i64
-    ensures answer { λ r. ⌜ r ≡ bytesOrNegated (writeAnswer (instantLabel ms) (now (out .entry))) ⌝ }
-    ensures buffer { λ r. ⌜ now (out .exit) ≡ writtenBuffer (instantLabel ms) (now (out .entry)) ⌝ }
+pub extern "C" fn ovenquill_is_leap(year: i64) -> i64
+    ensures { λ r. ⌜ r ≡ returnedFlag (leapAnswer year) ⌝ }
 {
-    match labels::rfc3339::write_instant(ms, out) {
-        WriteAnswer::Written(bytes) => bytes as i64,
-        WriteAnswer::Refused(r) => negated(r),
-    }
+    give::returned_flag(calendar::is_leap(year))
 }
 
-fn negated(r: Refusal) -> i64
-    ensures { λ n. ⌜ n ≡ negℤ (pos (refusalNumber r)) ⌝ }
+#[no_mangle]
+pub extern "C" fn ovenquill_last_day_of_month(year: i64, month: i64) -> i64
+    ensures { λ r. ⌜ r ≡ returned (lastDayAnswer year month) ⌝ }
 {
-    0 - (refusal::number(r) as i64)
+    give::returned_number(calendar::last_day_of_month(year, month))
+}
+
+#[no_mangle]
+pub extern "C" fn ovenquill_day_of_year(year: i64, month: i64, day: i64) -> i64
+    ensures { λ r. ⌜ r ≡ returned (dayOfYearAnswer year month day) ⌝ }
+{
+    give::returned_number(calendar::day_of_year(year, month, day))
+}
+
+#[no_mangle]
+pub extern "C" fn ovenquill_add_days(
+    year: i64,
+    month: i64,
+    day: i64,
+    days: i64,
+    date: &mut [i64; 3],
+) -> i64
+    ensures answer { λ r. ⌜ r ≡ returnedDone (addDaysAnswer year month day days) ⌝ }
+    ensures date { λ r. ⌜ now (date .exit) ≡ afterCall (addDaysAnswer year month day days) dateNumbers (now (date .entry)) ⌝ }
+{
+    give::date(calendar::add_days(year, month, day, days), date)
+}
+
+#[no_mangle]
+pub extern "C" fn ovenquill_day_of_instant(instant: i64, days: &mut i64) -> i64
+    ensures answer { λ r. ⌜ r ≡ returnedDone (dayAnswer instant) ⌝ }
+    ensures days { λ r. ⌜ now (days .exit) ≡ afterCall (dayAnswer instant) (λ n. n) (now (days .entry)) ⌝ }
+{
+    give::number(instant::day_of_instant(instant), days)
+}
+
+#[no_mangle]
+pub extern "C" fn ovenquill_split_instant(instant: i64, fields: &mut [i64; 7]) -> i64
+    ensures answer { λ r. ⌜ r ≡ returnedDone (splitAnswer instant) ⌝ }
+    ensures fields { λ r. ⌜ now (fields .exit) ≡ afterCall (splitAnswer instant) fieldsNumbers (now (fields .entry)) ⌝ }
+{
+    give::fields(instant::split_instant(instant), fields)
+}
+
+#[no_mangle]
+pub extern "C" fn ovenquill_join_instant(
+    year: i64,
+    month: i64,
+    day: i64,
+    hour: i64,
+    minute: i64,
+    second: i64,
+    millisecond: i64,
+    instant: &mut i64,
+) -> i64
+    ensures answer { λ r. ⌜ r ≡ returnedDone (joinAnswer year month day hour minute second millisecond) ⌝ }
+    ensures instant { λ r. ⌜ now (instant .exit) ≡ afterCall (joinAnswer year month day hour minute second millisecond) (λ n. n) (now (instant .entry)) ⌝ }
+{
+    give::number(
+        instant::join_instant(year, month, day, hour, minute, second, millisecond),
+        instant,
+    )
+}
+
+#[no_mangle]
+pub extern "C" fn ovenquill_index_days(instants: &[i64], days: &mut [i32], place: &mut i64) -> i64
+    ensures answer { λ r. ⌜ r ≡ returnedCount (indexDaysAnswer (now (instants .entry)) (now (days .entry))) ⌝ }
+    ensures days { λ r. ⌜ now (days .exit) ≡ indexDays (now (instants .entry)) (now (days .entry)) ⌝ }
+    ensures place { λ r. ⌜ now (place .exit) ≡ afterRefusal (indexDaysAnswer (now (instants .entry)) (now (days .entry))) (now (place .entry)) ⌝ }
+{
+    give::index(instant::index_days(instants, days), place)
+}
+
+#[no_mangle]
+pub extern "C" fn ovenquill_write_instant(instant: i64, out: &mut [u8]) -> i64
+    ensures answer { λ r. ⌜ r ≡ returnedCount (bytesWritten (instantLabel instant) (now (out .entry))) ⌝ }
+    ensures buffer { λ r. ⌜ now (out .exit) ≡ writtenBuffer (instantLabel instant) (now (out .entry)) ⌝ }
+{
+    give::returned_bytes(labels::rfc3339::write_instant(instant, out))
+}
+
+#[no_mangle]
+pub extern "C" fn ovenquill_read_instant(label: &[u8], instant: &mut i64) -> i64
+    ensures answer { λ r. ⌜ r ≡ returnedDone (readAnswer (now (label .entry))) ⌝ }
+    ensures instant { λ r. ⌜ now (instant .exit) ≡ afterCall (readAnswer (now (label .entry))) (λ n. n) (now (instant .entry)) ⌝ }
+{
+    give::number(labels::rfc3339::read_instant(label), instant)
+}
+
+#[no_mangle]
+pub extern "C" fn ovenquill_write_position(position: i64, out: &mut [u8]) -> i64
+    ensures answer { λ r. ⌜ r ≡ returnedCount (bytesWritten (positionLabel position) (now (out .entry))) ⌝ }
+    ensures buffer { λ r. ⌜ now (out .exit) ≡ writtenBuffer (positionLabel position) (now (out .entry)) ⌝ }
+{
+    give::returned_bytes(labels::webvtt::write_position(position, out))
+}
+
+#[no_mangle]
+pub extern "C" fn ovenquill_first_difference(
+    a: i64,
+    b: i64,
+    d: i64,
+    m: i64,
+    c: i64,
+    k: i64,
+    t: i64,
+    end: i64,
+) -> i64
+    ensures { λ r. ⌜ r ≡ returnedFound end (differenceAnswer a b d m c k t end) ⌝ }
+{
+    give::returned_found(constants::first_difference(a, b, d, m, c, k, t, end), end)
+}
+
+#[no_mangle]
+pub extern "C" fn ovenquill_check_bound(
+    a: i64,
+    b: i64,
+    d: i64,
+    m: i64,
+    c: i64,
+    k: i64,
+    t: i64,
+    bound: i64,
+    least: &mut i64,
+) -> i64
+    ensures answer { λ r. ⌜ r ≡ returnedDone (boundAnswer a b d m c k t bound) ⌝ }
+    ensures least { λ r. ⌜ now (least .exit) ≡ afterRefusal (boundAnswer a b d m c k t bound) (now (least .entry)) ⌝ }
+{
+    give::claim(constants::check_bound(a, b, d, m, c, k, t, bound), least)
 }

@@ -1,4 +1,6 @@
-// The numbered refusals of document 01, "The numbered refusals".
+// The numbered refusals of document 01, "The numbered refusals", and the answer of a number or a refusal that the crates share.
+//
+//     number(refusal)        its number, 1 to 12
 
 ghost use mathlib.Core.Path.{_≡_};
 ghost use Rattle.refusal.specs.Numbers.{refusalNumber};
@@ -28,6 +30,11 @@ pub enum Refusal {
     NoDifferenceUpToBound,
     // 12: index lists of unequal length
     UnequalLengths,
+}
+
+pub enum NumberAnswer {
+    Value(i64),
+    Refused(Refusal),
 }
 
 // The number of a refusal, 1 to 12.

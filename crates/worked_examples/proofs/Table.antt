@@ -18,7 +18,7 @@ use Rattle.instant.specs.Answers.{dayAnswer}
 use Rattle.constants.specs.Difference.{exactQuotient, deviceQuotient, differs}
 use Rattle.constants.specs.Least.{at, leastBelow}
 use Rattle.constants.specs.Limits.{outsideLimits}
-use Rattle.constants.specs.Answers.{difference, searchAnswer}
+use Rattle.constants.specs.Answers.{difference, differenceAnswer}
 use Rattle.constants.proofs.Laws.{found-early}
 
 -- day z is the date with the year baseYear + y
@@ -28,19 +28,19 @@ on z y m d v e h =
     ap (λ t. cond t (refused 4) (value (dateOfCount z))) h ∙ ap value (date-at (since firstCount z) y m d v e)
 
 -- each n up to the difference is asked
-tenth-row : searchAnswer (pos 1) (pos 0) (pos 10) (pos 26) (pos 0) (pos 8) (pos 0) (pos 4294967295) ≡ value (at 69)
+tenth-row : differenceAnswer (pos 1) (pos 0) (pos 10) (pos 26) (pos 0) (pos 8) (pos 0) (pos 4294967295) ≡ value (at 69)
 unfolding outsideLimits difference differs exactQuotient deviceQuotient leastBelow
 tenth-row = found-early (pos 1) (pos 0) (pos 10) (pos 26) (pos 0) (pos 8) (pos 0) (pos 4294967295) refl 70 69 refl (lit≤ tt)
 
-tenth-within-one-row : searchAnswer (pos 1) (pos 0) (pos 10) (pos 26) (pos 0) (pos 8) (pos 1) (pos 4294967295) ≡ value (at 709)
+tenth-within-one-row : differenceAnswer (pos 1) (pos 0) (pos 10) (pos 26) (pos 0) (pos 8) (pos 1) (pos 4294967295) ≡ value (at 709)
 unfolding outsideLimits difference differs exactQuotient deviceQuotient leastBelow
 tenth-within-one-row = found-early (pos 1) (pos 0) (pos 10) (pos 26) (pos 0) (pos 8) (pos 1) (pos 4294967295) refl 710 709 refl (lit≤ tt)
 
-tenth-too-small-row : searchAnswer (pos 1) (pos 0) (pos 10) (pos 25) (pos 0) (pos 8) (pos 0) (pos 4294967295) ≡ value (at 10)
+tenth-too-small-row : differenceAnswer (pos 1) (pos 0) (pos 10) (pos 25) (pos 0) (pos 8) (pos 0) (pos 4294967295) ≡ value (at 10)
 unfolding outsideLimits difference differs exactQuotient deviceQuotient leastBelow
 tenth-too-small-row = found-early (pos 1) (pos 0) (pos 10) (pos 25) (pos 0) (pos 8) (pos 0) (pos 4294967295) refl 11 10 refl (lit≤ tt)
 
-month-row : searchAnswer (pos 5) (pos 461) (pos 153) (pos 2141) (pos 197913) (pos 16) (pos 0) (pos 4294967295) ≡ value (at 734)
+month-row : differenceAnswer (pos 5) (pos 461) (pos 153) (pos 2141) (pos 197913) (pos 16) (pos 0) (pos 4294967295) ≡ value (at 734)
 unfolding outsideLimits difference differs exactQuotient deviceQuotient leastBelow
 month-row = found-early (pos 5) (pos 461) (pos 153) (pos 2141) (pos 197913) (pos 16) (pos 0) (pos 4294967295) refl 735 734 refl (lit≤ tt)
 
@@ -58,10 +58,10 @@ pub record Table : Type 0 where
   pub day-before-epoch : dayAnswer (negsuc 86399999) ≡ value (negsuc 0)
   pub two-days-before-epoch : dayAnswer (negsuc 86400000) ≡ value (negsuc 1)
   -- a=1 b=0 d=10 m=26 c=0 k=8, t=0 and t=1; m=25; and a month step of source document 000
-  pub tenth : searchAnswer (pos 1) (pos 0) (pos 10) (pos 26) (pos 0) (pos 8) (pos 0) (pos 4294967295) ≡ value (at 69)
-  pub tenth-within-one : searchAnswer (pos 1) (pos 0) (pos 10) (pos 26) (pos 0) (pos 8) (pos 1) (pos 4294967295) ≡ value (at 709)
-  pub tenth-too-small : searchAnswer (pos 1) (pos 0) (pos 10) (pos 25) (pos 0) (pos 8) (pos 0) (pos 4294967295) ≡ value (at 10)
-  pub month : searchAnswer (pos 5) (pos 461) (pos 153) (pos 2141) (pos 197913) (pos 16) (pos 0) (pos 4294967295) ≡ value (at 734)
+  pub tenth : differenceAnswer (pos 1) (pos 0) (pos 10) (pos 26) (pos 0) (pos 8) (pos 0) (pos 4294967295) ≡ value (at 69)
+  pub tenth-within-one : differenceAnswer (pos 1) (pos 0) (pos 10) (pos 26) (pos 0) (pos 8) (pos 1) (pos 4294967295) ≡ value (at 709)
+  pub tenth-too-small : differenceAnswer (pos 1) (pos 0) (pos 10) (pos 25) (pos 0) (pos 8) (pos 0) (pos 4294967295) ≡ value (at 10)
+  pub month : differenceAnswer (pos 5) (pos 461) (pos 153) (pos 2141) (pos 197913) (pos 16) (pos 0) (pos 4294967295) ≡ value (at 734)
 
 pub table : Table
 unfolding dayAnswer dayOf weekdayAnswer weekday count start leaps leapDay leapℕ before monthDays

@@ -31,13 +31,13 @@ pub fn run() {
 }
 
 // An instant: its day and its fields.
-fn moment(ms: i64) {
+fn moment(instant: i64) {
     text(b"instant ");
-    number(ms);
+    number(instant);
     text(b": day ");
-    number_answer(instant::day_of_instant(ms));
+    number_answer(instant::day_of_instant(instant));
     text(b", fields ");
-    match instant::split_instant(ms) {
+    match instant::split_instant(instant) {
         FieldsAnswer::Value(fields) => show_fields(fields),
         FieldsAnswer::Refused(r) => refused(r),
     }

@@ -28,12 +28,12 @@ pub fn run() {
     short_position(4287767296);
 }
 
-fn written(ms: i64) {
+fn written(instant: i64) {
     text(b"instant ");
-    number(ms);
+    number(instant);
     text(b": label ");
     let mut out = [b'?'; 24];
-    let answer = labels::rfc3339::write_instant(ms, &mut out);
+    let answer = labels::rfc3339::write_instant(instant, &mut out);
     written_answer(answer);
     text(b" ");
     text(&out);
@@ -56,24 +56,24 @@ fn read(label: &[u8]) {
 }
 
 // The bytes that a writer leaves alone stay question marks.
-fn position(ms: i64) {
+fn position(position: i64) {
     text(b"position ");
-    number(ms);
+    number(position);
     text(b": ");
     let mut out = [b'?'; 16];
-    let answer = labels::webvtt::write_position(ms, &mut out);
+    let answer = labels::webvtt::write_position(position, &mut out);
     written_answer(answer);
     text(b" ");
     text(&out);
     text(b"\n");
 }
 
-fn short_position(ms: i64) {
+fn short_position(position: i64) {
     text(b"position ");
-    number(ms);
+    number(position);
     text(b" in 13 bytes: ");
     let mut out = [b'?'; 13];
-    let answer = labels::webvtt::write_position(ms, &mut out);
+    let answer = labels::webvtt::write_position(position, &mut out);
     written_answer(answer);
     text(b" ");
     text(&out);

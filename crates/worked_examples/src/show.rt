@@ -2,7 +2,7 @@
 
 use calendar::DateAnswer;
 use calendar::FlagAnswer;
-use calendar::NumberAnswer;
+use refusal::NumberAnswer;
 use refusal::Refusal;
 
 pub fn text(words: &[u8]) {

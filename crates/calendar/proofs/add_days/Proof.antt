@@ -1,7 +1,7 @@
 use Rattle.calendar.proofs.Shift.{first-subtracts, last-subtracts, too-early, too-late, sum-inside, sum-fits, sum-is}
 use Rattle.calendar.proofs.Tests.{days-read}
 use Rattle.calendar.proofs.Dates.{days-inside, added-inside, added-outside, not-added}
-use Rattle.calendar.specs.Answers.{numberOutcome}
+use Rattle.refusal.specs.Outcome.{numberOutcome}
 use Rattle.calendar.specs.Count.{dateOfCount}
 use Rattle.calendar.specs.Range.{firstCount, lastCount}
 use Rattle.numbers.specs.Range.{outside}

@@ -2,10 +2,10 @@ use Rattle.calendar.specs.declared.Date.{Date}
 use Rattle.calendar.specs.Gregorian.{date}
 use Rattle.calendar.proofs.Dates.{natural, day-small, day-too-small, day-too-large, tested-valid, checked}
 use Rattle.calendar.proofs.Tests.{month-refused, of-read}
-use Rattle.calendar.specs.Answers.{numberOutcome, lastDayAnswer}
+use Rattle.calendar.specs.Answers.{lastDayAnswer}
 use Rattle.numbers.proofs.Machine.{read, cast-pos}
 use Rattle.refusal.specs.Numbers.{refusalNumber}
-use Rattle.refusal.specs.Outcome.{value}
+use Rattle.refusal.specs.Outcome.{numberOutcome, value}
 use mir.Facts.{toZ-ofZ}
 use mir.Val.{SFits}
 use mir.Syntax.{w32, w64}

@@ -16,15 +16,15 @@ use borrow.Author.Needs.{needs}
 use Rattle.calendar.proofs.weekday_from_days.Statement.{statement}
 use Rattle.calendar.proofs.weekday_from_days.Tie as tie
 
-count-outside-requires : tie.Need-count-outside-requires
-count-outside-requires c κs = search needs
+outside-requires : tie.Need-outside-requires
+outside-requires c κs = search needs
 
 returns : tie.Need-returns
 unfolding weekdayAnswer
-returns c = rw (answered firstCount lastCount (c .before .before .fits .days) (c .before .count-outside .ensures) (c .if1 .taken))
+returns c = rw (answered firstCount lastCount (c .before .before .fits .days) (c .before .outside .ensures) (c .if1 .taken))
 
 days-from-first-requires : tie.Need-days-from-first-requires
-days-from-first-requires c κs = sym (c .before .count-outside .ensures) ∙ c .if1 .left
+days-from-first-requires c κs = sym (c .before .outside .ensures) ∙ c .if1 .left
 
 add-t5 : tie.Need-add-t5
 add-t5 c = record { fits = omega (arith, c .days-from-first .ensures .1) }
@@ -35,7 +35,7 @@ cast-t7 c = search needs
 returns-2 : tie.Need-returns-2
 unfolding weekdayAnswer
 returns-2 c = let s = c .before .before .before in
-    let h = answered firstCount lastCount (s .fits .days) (c .before .before .count-outside .ensures) (c .before .if1 .left) in
+    let h = answered firstCount lastCount (s .fits .days) (c .before .before .outside .ensures) (c .before .if1 .left) in
     let e = add-since firstCount (s .args .days) (outside-no firstCount lastCount (s .args .days) h .0) in
     rw h
     (ap value (toZ-pos w64 (omega arith) ∙ ap (λ n. pos ((n + 6) % 7)) (c .days-from-first .ensures .0 ∙ ap (since firstCount) (toZ-ofZ (s .fits .days)))
@@ -44,4 +44,4 @@ returns-2 c = let s = c .before .before .before in
 pub weekday-from-days-spec : {M : Type 1} → statement M
 weekday-from-days-spec =
     tie.close
-    (tie.spec count-outside-requires returns days-from-first-requires add-t5 cast-t7 returns-2)
+    (tie.spec outside-requires returns days-from-first-requires add-t5 cast-t7 returns-2)

@@ -1,6 +1,6 @@
 use Rattle.calendar.proofs.Dates.{days-inside}
 use Rattle.calendar.proofs.Tests.{days-read}
-use Rattle.calendar.specs.Answers.{numberOutcome}
+use Rattle.refusal.specs.Outcome.{numberOutcome}
 use Rattle.calendar.specs.Range.{firstCount, lastCount}
 use Rattle.numbers.proofs.Machine.{from-first}
 use Rattle.numbers.proofs.Integers.{outside-no}

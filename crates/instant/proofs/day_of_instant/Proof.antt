@@ -16,7 +16,7 @@ outside-requires c κs = search needs
 
 returns : tie.Need-returns
 unfolding dayAnswer
-returns c = rw (answered firstInstant lastInstant (c .before .before .fits .ms) (c .before .outside .ensures) (c .if1 .taken))
+returns c = rw (answered firstInstant lastInstant (c .before .before .fits .instant) (c .before .outside .ensures) (c .if1 .taken))
 
 day-requires : tie.Need-day-requires
 day-requires c κs = search needs
@@ -25,8 +25,8 @@ returns-2 : tie.Need-returns-2
 unfolding dayAnswer
 returns-2 c = let s = c .before .before .before in
     let g : SFits w64 (c .day .result) = search needs in
-    rw (answered firstInstant lastInstant (s .fits .ms) (c .before .before .outside .ensures) (c .before .if1 .left))
-    (ap value (toZ-ofZ g ∙ c .day .ensures ∙ ap dayOf (toZ-ofZ (s .fits .ms))))
+    rw (answered firstInstant lastInstant (s .fits .instant) (c .before .before .outside .ensures) (c .before .if1 .left))
+    (ap value (toZ-ofZ g ∙ c .day .ensures ∙ ap dayOf (toZ-ofZ (s .fits .instant))))
 
 pub day-of-instant-spec : {M : Type 1} → statement M
 day-of-instant-spec = tie.close (tie.spec outside-requires returns day-requires returns-2)

@@ -4,7 +4,7 @@ use Rattle.instant.specs.Checked.{timeAnswer}
 use Rattle.calendar.specs.Answers as calendar
 use Rattle.calendar.proofs.Tests.{days-read}
 use Rattle.refusal.specs.Numbers.{refusalNumber}
-use Rattle.refusal.specs.Outcome.{value}
+use Rattle.refusal.specs.Outcome.{numberOutcome, value}
 use mathlib.Core.Path.{_≡_, sym, ap, _∙_}
 use borrow.Author.Needs.{needs}
 use Rattle.instant.proofs.join_instant.Statement.{statement}
@@ -25,18 +25,18 @@ enum-known-time c = search needs
 -- what the two callees answered
 days-answer :
     (c : tie.After-days-from-civil) →
-    calendar.numberOutcome (c .days-from-civil .result) ≡ calendar.daysAnswer (c .before .args .year) (c .before .args .month) (c .before .args .day)
+    numberOutcome (c .days-from-civil .result) ≡ calendar.daysAnswer (c .before .args .year) (c .before .args .month) (c .before .args .day)
 days-answer c = let f = c .before .fits in c .days-from-civil .ensures ∙ days-read (f .year) (f .month) (f .day)
 
 abbrev start : tie.After-check-time → tie.Start
 start c = c .before .before .before .before .before
 
 days-of : (c : tie.After-check-time) → value (c .before .before .count .given .0 .0) ≡ calendar.daysAnswer (start c .args .year) (start c .args .month) (start c .args .day)
-days-of c = ap calendar.numberOutcome (sym (c .before .before .count .given .1)) ∙ days-answer (c .before .before .before .before)
+days-of c = ap numberOutcome (sym (c .before .before .count .given .1)) ∙ days-answer (c .before .before .before .before)
 
 time-of :
     (c : tie.After-check-time) →
-    calendar.numberOutcome (c .check-time .result) ≡ timeAnswer (start c .args .hour) (start c .args .minute) (start c .args .second) (start c .args .millisecond)
+    numberOutcome (c .check-time .result) ≡ timeAnswer (start c .args .hour) (start c .args .minute) (start c .args .second) (start c .args .millisecond)
 time-of c = let a = start c .args in
     let f = start c .fits in
     c .check-time .ensures ∙ time-read (a .hour) (a .minute) (a .second) (a .millisecond) (f .hour) (f .minute) (f .second) (f .millisecond)
@@ -47,7 +47,7 @@ both : (c : tie.After-known-told2) → let k = c .before .before .before in
 both c = let k = c .before .before .before in
     record {
       days = days-of k;
-      clock = ap calendar.numberOutcome (sym (c .before .time .given .1)) ∙ time-of k;
+      clock = ap numberOutcome (sym (c .before .time .given .1)) ∙ time-of k;
       count-fits = search needs;
       time-fits = search needs;
     }
@@ -71,13 +71,13 @@ returns-2 : tie.Need-returns-2
 returns-2 c = let k = c .before .before .before in
     let a = start k .args in
     time-decided (a .hour) (a .minute) (a .second) (a .millisecond) (a .year) (a .month) (a .day) _ (days-of k) (refusalNumber (c .before .r .given .0 .0))
-    (ap calendar.numberOutcome (sym (c .before .r .given .1)) ∙ time-of k)
+    (ap numberOutcome (sym (c .before .r .given .1)) ∙ time-of k)
 
 returns-3 : tie.Need-returns-3
 returns-3 c = let k = c .before .before .before in
     let a = k .before .args in
     date-decided (a .hour) (a .minute) (a .second) (a .millisecond) (a .year) (a .month) (a .day) (refusalNumber (c .before .r2 .given .0 .0))
-    (ap calendar.numberOutcome (sym (c .before .r2 .given .1)) ∙ days-answer k)
+    (ap numberOutcome (sym (c .before .r2 .given .1)) ∙ days-answer k)
 
 pub join-instant-spec : {M : Type 1} → statement M
 join-instant-spec =

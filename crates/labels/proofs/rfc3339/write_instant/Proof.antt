@@ -1,9 +1,9 @@
 -- The fields of an instant in the range have room in the label.
 use mathlib.Core.Path.{sym, ap, _∙_}
 use mir.Facts.{toZ-ofZ}
-use Rattle.refusal.specs.Outcome.{value}
-use Rattle.instant.specs.Answers.{fieldsOutcome, fieldsAnswer}
-use Rattle.labels.specs.Rfc3339.{labelOf, instantLabel}
+use Rattle.refusal.specs.Outcome.{mapValue, value}
+use Rattle.instant.specs.Answers.{fieldsOutcome, splitAnswer}
+use Rattle.labels.specs.Rfc3339.{labelText, instantLabel}
 use Rattle.labels.proofs.Copy.{renamed, nothing-written}
 use Rattle.labels.proofs.Instants.{fields-narrow}
 use borrow.Author.Needs.{needs}
@@ -20,8 +20,8 @@ label-of-requires : tie.Need-label-of-requires
 label-of-requires c κs =
     let s = c .before .before .before .before .before in
     let g = c .before .fields .given in
-    let e = ap fieldsOutcome (sym (g .1)) ∙ c .before .before .before .split-instant .ensures ∙ ap fieldsAnswer (toZ-ofZ (s .fits .ms)) in
-    fields-narrow (s .args .ms) (g .0 .0) (sym e)
+    let e = ap fieldsOutcome (sym (g .1)) ∙ c .before .before .before .split-instant .ensures ∙ ap splitAnswer (toZ-ofZ (s .fits .instant)) in
+    fields-narrow (s .args .instant) (g .0 .0) (sym e)
 
 slice-aggregate-put : tie.Need-slice-aggregate-put
 slice-aggregate-put c = search needs
@@ -40,16 +40,16 @@ unfolding instantLabel
 returns c =
     let s = c .before .before .before .before .before .before .before .before .before .before .before in
     let g = c .before .before .before .before .before .before .before .fields .given in
-    let e = ap fieldsOutcome (sym (g .1)) ∙ c .before .before .before .before .before .before .before .before .before .split-instant .ensures ∙ ap fieldsAnswer (toZ-ofZ (s .fits .ms)) in
-    renamed (s .args .out .now) (ap value (c .before .before .before .before .before .label-of .ensures) ∙ ap labelOf e) (c .before .before .put .ensures)
+    let e = ap fieldsOutcome (sym (g .1)) ∙ c .before .before .before .before .before .before .before .before .before .split-instant .ensures ∙ ap splitAnswer (toZ-ofZ (s .fits .instant)) in
+    renamed (s .args .out .now) (ap value (c .before .before .before .before .before .label-of .ensures) ∙ ap (mapValue labelText) e) (c .before .before .put .ensures)
 
 returns-2 : tie.Need-returns-2
 unfolding instantLabel
 returns-2 c =
     let s = c .before .before .before .before .before in
     let g = c .before .r .given in
-    let e = ap fieldsOutcome (sym (g .1)) ∙ c .before .before .before .split-instant .ensures ∙ ap fieldsAnswer (toZ-ofZ (s .fits .ms)) in
-    nothing-written (s .args .out .now) (ap labelOf e)
+    let e = ap fieldsOutcome (sym (g .1)) ∙ c .before .before .before .split-instant .ensures ∙ ap splitAnswer (toZ-ofZ (s .fits .instant)) in
+    nothing-written (s .args .out .now) (ap (mapValue labelText) e)
 
 pub write-instant-spec : {M : Type 1} → statement M
 write-instant-spec =

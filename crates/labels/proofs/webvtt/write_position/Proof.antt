@@ -12,16 +12,16 @@ use Rattle.labels.proofs.webvtt.write_position.Statement.{statement}
 use Rattle.labels.proofs.webvtt.write_position.Tie as tie
 
 returns : tie.Need-returns
-returns c = nothing-written (c .before .before .args .out .now) (below-range (c .before .before .fits .ms) (c .if1 .taken))
+returns c = nothing-written (c .before .before .args .out .now) (below-range (c .before .before .fits .position) (c .if1 .taken))
 
 returns-2 : tie.Need-returns-2
-returns-2 c = nothing-written (c .before .before .before .args .out .now) (above-range (c .before .before .before .fits .ms) (c .before .if1 .left) (c .if2 .taken))
+returns-2 c = nothing-written (c .before .before .before .args .out .now) (above-range (c .before .before .before .fits .position) (c .before .if1 .left) (c .if2 .taken))
 
 cast-n : tie.Need-cast-n
-cast-n c = let r = in-range (read (c .before .before .before .args .ms)) (c .before .if1 .left) (c .if2 .left) in cast-pos w64 _ (omega (arith, r .1)) (r .0)
+cast-n c = let r = in-range (read (c .before .before .before .args .position)) (c .before .if1 .left) (c .if2 .left) in cast-pos w64 _ (omega (arith, r .1)) (r .0)
 
 cast-hours : tie.Need-cast-hours
-cast-hours c = omega (arith, in-range (read (c .before .before .before .args .ms)) (c .before .if1 .left) (c .if2 .left) .1)
+cast-hours c = omega (arith, in-range (read (c .before .before .before .args .position)) (c .before .if1 .left) (c .if2 .left) .1)
 
 cast-rest : tie.Need-cast-rest
 cast-rest c = search needs
@@ -41,13 +41,13 @@ same-length c = search needs
 returns-3 : tie.Need-returns-3
 returns-3 c =
     let s = c .before .before .before .before .before .before .before .before .before .before in
-    let n = natAbs (read (s .args .ms)) in
-    label-written (s .fits .ms) (c .before .before .before .before .before .before .before .before .if1 .left) (c .before .before .before .before .before .before .before .if2 .left) (s .args .out .now)
+    let n = natAbs (read (s .args .position)) in
+    label-written (s .fits .position) (c .before .before .before .before .before .before .before .before .if1 .left) (c .before .before .before .before .before .before .before .if2 .left) (s .args .out .now)
     (c .before .before .before .before .before .shortest .ensures ∙ two-hours n (c .before .before .before .before .before .before .if3 .taken))
     (c .before .before .put .ensures)
 
 widest-requires : tie.Need-widest-requires
-widest-requires c κs = omega (arith, in-range (read (c .before .before .before .before .args .ms)) (c .before .before .if1 .left) (c .before .if2 .left) .1)
+widest-requires c κs = omega (arith, in-range (read (c .before .before .before .before .args .position)) (c .before .before .if1 .left) (c .before .if2 .left) .1)
 
 sub-put : tie.Need-sub-put
 sub-put c = search needs
@@ -67,8 +67,8 @@ same-length-2 c = search needs
 returns-4 : tie.Need-returns-4
 returns-4 c =
     let s = c .before .before .before .before .before .before .before .before .before .before .before .before in
-    let n = natAbs (read (s .args .ms)) in
-    label-written (s .fits .ms) (c .before .before .before .before .before .before .before .before .before .before .if1 .left) (c .before .before .before .before .before .before .before .before .before .if2 .left) (s .args .out .now)
+    let n = natAbs (read (s .args .position)) in
+    label-written (s .fits .position) (c .before .before .before .before .before .before .before .before .before .before .if1 .left) (c .before .before .before .before .before .before .before .before .before .if2 .left) (s .args .out .now)
     (ap (λ l. take 13 (drop 2 l)) (c .before .before .before .before .before .before .before .widest .ensures) ∙ three-hours n (c .before .before .before .before .before .before .before .before .if3 .left) (c .before .before .before .before .before .before .if4 .taken))
     (c .before .before .put2 .ensures)
 
@@ -90,8 +90,8 @@ same-length-3 c = search needs
 returns-5 : tie.Need-returns-5
 returns-5 c =
     let s = c .before .before .before .before .before .before .before .before .before .before .before .before .before in
-    let n = natAbs (read (s .args .ms)) in
-    label-written (s .fits .ms) (c .before .before .before .before .before .before .before .before .before .before .before .if1 .left) (c .before .before .before .before .before .before .before .before .before .before .if2 .left) (s .args .out .now)
+    let n = natAbs (read (s .args .position)) in
+    label-written (s .fits .position) (c .before .before .before .before .before .before .before .before .before .before .before .if1 .left) (c .before .before .before .before .before .before .before .before .before .before .if2 .left) (s .args .out .now)
     (ap (λ l. take 14 (drop 1 l)) (c .before .before .before .before .before .before .before .before .widest .ensures) ∙ four-hours n (c .before .before .before .before .before .before .before .before .before .if3 .left) (c .before .before .before .before .before .before .before .if4 .left) (c .before .before .before .before .before .before .if5 .taken))
     (c .before .before .put3 .ensures)
 
@@ -107,8 +107,8 @@ same-length-4 c = search needs
 returns-6 : tie.Need-returns-6
 returns-6 c =
     let s = c .before .before .before .before .before .before .before .before .before .before .before .before in
-    let n = natAbs (read (s .args .ms)) in
-    label-written (s .fits .ms) (c .before .before .before .before .before .before .before .before .before .before .if1 .left) (c .before .before .before .before .before .before .before .before .before .if2 .left) (s .args .out .now)
+    let n = natAbs (read (s .args .position)) in
+    label-written (s .fits .position) (c .before .before .before .before .before .before .before .before .before .before .if1 .left) (c .before .before .before .before .before .before .before .before .before .if2 .left) (s .args .out .now)
     (c .before .before .before .before .before .before .before .widest .ensures ∙ five-hours n (c .before .before .before .before .before .before .before .before .if3 .left) (c .before .before .before .before .before .before .if4 .left) (c .before .before .before .before .before .if5 .left))
     (c .before .before .put4 .ensures)
 

@@ -1,10 +1,10 @@
 use Rattle.numbers.proofs.Integers.{below-outside}
 use mir.Facts.{toZ-ofZ}
 use lib.Signed.{ltZ}
 use mathlib.Core.Bool.{_||_}
 use mathlib.Core.Path.{sym, ap, ap₂, _∙_}
-use Rattle.instant.proofs.range.outside.Statement.{statement}
-use Rattle.instant.proofs.range.outside.Tie as tie
+use Rattle.numbers.proofs.outside.Statement.{statement}
+use Rattle.numbers.proofs.outside.Tie as tie
 
 returns : tie.Need-returns
 returns c = let s = c .before in

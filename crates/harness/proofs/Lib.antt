@@ -1,4 +1,0 @@
-pub mod Stores
-pub mod Fitting
-pub mod Answers
-pub mod Places

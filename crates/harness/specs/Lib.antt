@@ -1,4 +1,0 @@
-pub mod Stored
-pub mod Numbers
-pub mod Fitting
-pub mod Refusals

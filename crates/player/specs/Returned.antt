@@ -1,0 +1,51 @@
+-- What the exported calls return, and what they leave in the places that the caller hands in: document 01, "What the label desk gets":
+-- the value, "or the refusal number negated". A value that may be below zero, or is more than one number, goes to a place instead, and
+-- the call then returns 0. What a place holds after a call is `afterCall` of the call's answer.
+use Prim.Native.Nat.{ℕ}
+use mathlib.Core.Bool.{Bool, cond}
+use mathlib.Core.List.{List, [], _∷_}
+use lib.IntN.{ℤ, pos, negℤ}
+use Rattle.refusal.specs.Outcome.{Outcome, value, refused, refusedAt, mapValue}
+use Rattle.calendar.specs.declared.Date.{Date}
+use Rattle.instant.specs.declared.Fields.{Fields}
+use Rattle.constants.specs.Least.{Found, at, none}
+
+-- the value, or the refusal's number negated
+abbrev pub returned : Outcome ℤ → ℤ
+returned (value n) = n
+returned (refused number) = negℤ (pos number)
+returned (refusedAt number place) = negℤ (pos number)
+
+-- a count, which is never below zero
+abbrev pub returnedCount : Outcome ℕ → ℤ
+returnedCount answer = returned (mapValue pos answer)
+
+-- 1 for a flag that is set, else 0
+abbrev pub returnedFlag : Outcome Bool → ℤ
+returnedFlag answer = returned (mapValue (λ flag. cond flag (pos 1) (pos 0)) answer)
+
+-- 0 where the value goes to a place or there is none
+abbrev pub returnedDone : {A : Type 0} → Outcome A → ℤ
+returnedDone answer = returned (mapValue (λ a. pos 0) answer)
+
+-- the number that was found, or the end of the search where there is none below it
+abbrev pub foundOr : (end : ℤ) → Found → ℤ
+foundOr end (at n) = pos n
+foundOr end none = end
+
+abbrev pub returnedFound : (end : ℤ) → Outcome Found → ℤ
+returnedFound end answer = returned (mapValue (foundOr end) answer)
+
+-- a number, a date and fields as the numbers of their place, in document 01's order
+abbrev pub dateNumbers : Date → List ℤ
+dateNumbers d = d .year ∷ d .month ∷ d .day ∷ []
+
+abbrev pub fieldsNumbers : Fields → List ℤ
+fieldsNumbers f = f .year ∷ f .month ∷ f .day ∷ f .hour ∷ f .minute ∷ f .second ∷ f .millisecond ∷ []
+
+-- what the place for a refusal's own place or least n holds after a call: what the refusal hands back, and in every other case what
+-- it held before
+abbrev pub afterRefusal : {A : Type 0} → Outcome A → (before : ℤ) → ℤ
+afterRefusal (value a) before = before
+afterRefusal (refused number) before = before
+afterRefusal (refusedAt number place) before = pos place
