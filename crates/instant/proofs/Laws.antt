@@ -16,7 +16,7 @@ use Rattle.calendar.specs.Count.{dateOfCount}
 use Rattle.calendar.proofs.Dates.{days-inside}
 use Rattle.calendar.proofs.Laws.{days-of-date-of-count, date-of-days}
 use Rattle.instant.specs.Units.{perSecond, perMinute, perHour, perDay}
-use Rattle.instant.specs.Instant.{dayOf, timeOf, fields, fieldsAt, fieldsOf}
+use Rattle.instant.specs.Instant.{dayOf, timeOf, fieldsWith, fieldsAt, fieldsOf}
 use Rattle.instant.specs.Answers.{badInstant, splitAnswer, joinAnswer}
 use Rattle.instant.specs.declared.Fields.{Fields}
 use Rattle.instant.proofs.Times.{natural, timeℕ, time-is, time-small, fields-back, fields-of-time}
@@ -67,7 +67,7 @@ split-join instant f e =
 -- join, then split: the fields come back
 pub join-split :
     (year month day hour minute second fraction instant : ℤ) → joinAnswer year month day hour minute second fraction ≡ value instant →
-    splitAnswer instant ≡ value (fields year month day hour minute second fraction)
+    splitAnswer instant ≡ value (fieldsWith year month day hour minute second fraction)
 unfolding splitAnswer fieldsOf dayOf timeOf
 join-split year month day hour minute second fraction instant e =
     let a = join-accepted year month day hour minute second fraction instant (sym e) in

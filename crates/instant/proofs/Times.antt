@@ -9,7 +9,7 @@ use Rattle.numbers.proofs.Between.{Within, within, inside-pos}
 use Rattle.numbers.proofs.Integers.{no-both}
 use Rattle.calendar.specs.declared.Date.{Date}
 use Rattle.instant.specs.Units.{perSecond, perMinute, perHour, perDay}
-use Rattle.instant.specs.Instant.{fields, fieldsAt, timeOfFields}
+use Rattle.instant.specs.Instant.{fieldsWith, fieldsAt, timeOfFields}
 use Rattle.instant.specs.Answers.{badTime}
 
 -- the fields of a time of day in natural numbers
@@ -50,7 +50,7 @@ module _ (hour minute second fraction : ℤ) where
     time-small = omega (arith, t .hour-within .high, t .minute-within .high, t .second-within .high, t .fraction-within .high)
 
     -- it has these fields
-    pub fields-back : (d : Date) → fieldsAt d timeℕ ≡ fields (d .year) (d .month) (d .day) hour minute second fraction
+    pub fields-back : (d : Date) → fieldsAt d timeℕ ≡ fieldsWith (d .year) (d .month) (d .day) hour minute second fraction
     unfolding fieldsAt timeℕ
     fields-back d =
         let h = t .hour-within .high in
@@ -61,7 +61,7 @@ module _ (hour minute second fraction : ℤ) where
         let q : pos (timeℕ % perHour / perMinute) ≡ minute = ap pos (omega arith) ∙ sym (t .minute-within .is) in
         let r : pos (timeℕ % perMinute / perSecond) ≡ second = ap pos (omega arith) ∙ sym (t .second-within .is) in
         let u : pos (timeℕ % perSecond) ≡ fraction = ap pos (omega arith) ∙ sym (t .fraction-within .is) in
-        λ i. fields (d .year) (d .month) (d .day) (p i) (q i) (r i) (u i)
+        λ i. fieldsWith (d .year) (d .month) (d .day) (p i) (q i) (r i) (u i)
 
 -- the fields of a time of day are within their limits, and make that time
 pub fields-of-time :

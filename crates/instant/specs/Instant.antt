@@ -15,14 +15,14 @@ dayOf instant = floorQuotient instant perDay
 unfoldable pub timeOf : (instant : ℤ) → ℕ
 timeOf instant = floorRemainder instant perDay
 
-abbrev pub fields : (year month day hour minute second millisecond : ℤ) → Fields
-fields year month day hour minute second millisecond =
+abbrev pub fieldsWith : (year month day hour minute second millisecond : ℤ) → Fields
+fieldsWith year month day hour minute second millisecond =
     record { year = year; month = month; day = day; hour = hour; minute = minute; second = second; millisecond = millisecond }
 
 -- a date and a time of day as fields
 unfoldable pub fieldsAt : Date → (time : ℕ) → Fields
 fieldsAt d time =
-    fields (d .year) (d .month) (d .day) (pos (time / perHour)) (pos (time % perHour / perMinute)) (pos (time % perMinute / perSecond))
+    fieldsWith (d .year) (d .month) (d .day) (pos (time / perHour)) (pos (time % perHour / perMinute)) (pos (time % perMinute / perSecond))
     (pos (time % perSecond))
 
 -- the fields of an instant

@@ -13,14 +13,14 @@ ghost use Rattle.instant.specs.Answers.{firstBad};
 pub fn first_bad(instants: &[i64]) -> usize
     ensures { λ r. ⌜ r ≡ firstBad (now (instants .entry)) ⌝ }
 {
-    let mut i = 0;
-    while i < instants.len() {
-        if numbers::outside(FIRST_INSTANT, LAST_INSTANT, instants[i]) {
-            return i;
+    let mut place = 0;
+    while place < instants.len() {
+        if numbers::outside(FIRST_INSTANT, LAST_INSTANT, instants[place]) {
+            return place;
         }
-        i += 1;
+        place += 1;
     }
-    i
+    place
 }
 
 // The day count of each instant, all of which lie in the range.

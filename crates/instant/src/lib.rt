@@ -87,7 +87,7 @@ pub fn join_instant(
                 NumberAnswer::Refused(r) => NumberAnswer::Refused(r),
             }
         }
-        NumberAnswer::Refused(r) => NumberAnswer::Refused(r),
+        NumberAnswer::Refused(of_date) => NumberAnswer::Refused(of_date),
     }
 }
 

@@ -2,8 +2,7 @@
 use Prim.Native.Nat.{ℕ, _+_}
 use mathlib.Core.Path.{_≡_, refl, ap, _∙_}
 use mathlib.Core.Bool.{false, cond}
-use native.Mathlib.Omega.{arith}
-use lib.Dec.{lit≤}
+use lib.Dec.{T, leb, lit≤}
 use lib.IntN.{ℤ, pos, negsuc}
 use Rattle.refusal.specs.Outcome.{value, refused}
 use Rattle.numbers.specs.Range.{outside, since}
@@ -11,7 +10,7 @@ use Rattle.calendar.specs.Range.{firstCount, lastCount}
 use Rattle.calendar.specs.Gregorian.{date}
 use Rattle.calendar.specs.Count.{dateOfCount, weekday}
 use Rattle.calendar.specs.Answers.{civilAnswer, weekdayAnswer}
-use Rattle.calendar.specs.Closed.{cycle, leapDay, leapℕ, leaps, start, monthDays, before, Valid, count, public}
+use Rattle.calendar.specs.Closed.{cycle, leapDay, leapℕ, leaps, start, monthDays, before, count, public}
 use Rattle.calendar.proofs.Laws.{date-at}
 use Rattle.instant.specs.Instant.{dayOf}
 use Rattle.instant.specs.Answers.{dayAnswer}
@@ -22,10 +21,56 @@ use Rattle.constants.specs.Answers.{difference, differenceAnswer}
 use Rattle.constants.proofs.Laws.{found-early}
 
 -- day z is the date with the year baseYear + y
-on : (z : ℤ) (y m d : ℕ) → Valid y m d → count y m d ≡ cycle + since firstCount z → outside firstCount lastCount z ≡ false → civilAnswer z ≡ value (public y m d)
+on :
+    (z : ℤ) (y m d : ℕ) → T (leb 1 m) → T (leb m 12) → T (leb 1 d) → T (leb d (monthDays (leapDay y) m)) → count y m d ≡ cycle + since firstCount z →
+    outside firstCount lastCount z ≡ false → civilAnswer z ≡ value (public y m d)
 unfolding civilAnswer dateOfCount
-on z y m d v e h =
-    ap (λ t. cond t (refused 4) (value (dateOfCount z))) h ∙ ap value (date-at (since firstCount z) y m d v e)
+on z y m d month-low month-high day-low day-high e h =
+    ap (λ t. cond t (refused 4) (value (dateOfCount z))) h
+    ∙ ap value
+    (date-at (since firstCount z) y m d
+    (record { month-low = lit≤ month-low; month-high = lit≤ month-high; day-low = lit≤ day-low; day-high = lit≤ day-high })
+    e)
+
+first-row : civilAnswer (negsuc 719527) ≡ value (date (pos 0) (pos 1) (pos 1))
+unfolding count start leaps leapDay leapℕ before monthDays
+first-row = on (negsuc 719527) 400 1 1 tt tt tt tt refl refl
+
+leap-day-0-row : civilAnswer (negsuc 719468) ≡ value (date (pos 0) (pos 2) (pos 29))
+unfolding count start leaps leapDay leapℕ before monthDays
+leap-day-0-row = on (negsuc 719468) 400 2 29 tt tt tt tt refl refl
+
+after-leap-day-0-row : civilAnswer (negsuc 719467) ≡ value (date (pos 0) (pos 3) (pos 1))
+unfolding count start leaps leapDay leapℕ before monthDays
+after-leap-day-0-row = on (negsuc 719467) 400 3 1 tt tt tt tt refl refl
+
+february-1900-row : civilAnswer (negsuc 25508) ≡ value (date (pos 1900) (pos 2) (pos 28))
+unfolding count start leaps leapDay leapℕ before monthDays
+february-1900-row = on (negsuc 25508) 2300 2 28 tt tt tt tt refl refl
+
+march-1900-row : civilAnswer (negsuc 25507) ≡ value (date (pos 1900) (pos 3) (pos 1))
+unfolding count start leaps leapDay leapℕ before monthDays
+march-1900-row = on (negsuc 25507) 2300 3 1 tt tt tt tt refl refl
+
+before-epoch-row : civilAnswer (negsuc 0) ≡ value (date (pos 1969) (pos 12) (pos 31))
+unfolding count start leaps leapDay leapℕ before monthDays
+before-epoch-row = on (negsuc 0) 2369 12 31 tt tt tt tt refl refl
+
+leap-day-2000-row : civilAnswer (pos 11016) ≡ value (date (pos 2000) (pos 2) (pos 29))
+unfolding count start leaps leapDay leapℕ before monthDays
+leap-day-2000-row = on (pos 11016) 2400 2 29 tt tt tt tt refl refl
+
+february-2100-row : civilAnswer (pos 47540) ≡ value (date (pos 2100) (pos 2) (pos 28))
+unfolding count start leaps leapDay leapℕ before monthDays
+february-2100-row = on (pos 47540) 2500 2 28 tt tt tt tt refl refl
+
+march-2100-row : civilAnswer (pos 47541) ≡ value (date (pos 2100) (pos 3) (pos 1))
+unfolding count start leaps leapDay leapℕ before monthDays
+march-2100-row = on (pos 47541) 2500 3 1 tt tt tt tt refl refl
+
+last-row : civilAnswer (pos 2932896) ≡ value (date (pos 9999) (pos 12) (pos 31))
+unfolding count start leaps leapDay leapℕ before monthDays
+last-row = on (pos 2932896) 10399 12 31 tt tt tt tt refl refl
 
 -- each n up to the difference is asked
 tenth-row : differenceAnswer (pos 1) (pos 0) (pos 10) (pos 26) (pos 0) (pos 8) (pos 0) (pos 4294967295) ≡ value (at 69)
@@ -64,19 +109,19 @@ pub record Table : Type 0 where
   pub month : differenceAnswer (pos 5) (pos 461) (pos 153) (pos 2141) (pos 197913) (pos 16) (pos 0) (pos 4294967295) ≡ value (at 734)
 
 pub table : Table
-unfolding dayAnswer dayOf weekdayAnswer weekday count start leaps leapDay leapℕ before monthDays
+unfolding dayAnswer dayOf weekdayAnswer weekday
 table =
     record {
-      first = (on (negsuc 719527) 400 1 1 (omega arith) refl refl, refl);
-      leap-day-0 = on (negsuc 719468) 400 2 29 (omega arith) refl refl;
-      after-leap-day-0 = on (negsuc 719467) 400 3 1 (omega arith) refl refl;
-      february-1900 = on (negsuc 25508) 2300 2 28 (omega arith) refl refl;
-      march-1900 = on (negsuc 25507) 2300 3 1 (omega arith) refl refl;
-      before-epoch = (on (negsuc 0) 2369 12 31 (omega arith) refl refl, refl);
-      leap-day-2000 = on (pos 11016) 2400 2 29 (omega arith) refl refl;
-      february-2100 = on (pos 47540) 2500 2 28 (omega arith) refl refl;
-      march-2100 = on (pos 47541) 2500 3 1 (omega arith) refl refl;
-      last = (on (pos 2932896) 10399 12 31 (omega arith) refl refl, refl);
+      first = (first-row, refl);
+      leap-day-0 = leap-day-0-row;
+      after-leap-day-0 = after-leap-day-0-row;
+      february-1900 = february-1900-row;
+      march-1900 = march-1900-row;
+      before-epoch = (before-epoch-row, refl);
+      leap-day-2000 = leap-day-2000-row;
+      february-2100 = february-2100-row;
+      march-2100 = march-2100-row;
+      last = (last-row, refl);
       day-before-epoch = refl;
       two-days-before-epoch = refl;
       tenth = tenth-row;

@@ -61,8 +61,8 @@ add-t17 c = adds (both c)
 enum-known-r : tie.Need-enum-known-r
 enum-known-r c = search needs
 
-enum-known-r-2 : tie.Need-enum-known-r-2
-enum-known-r-2 c = search needs
+enum-known-of-date : tie.Need-enum-known-of-date
+enum-known-of-date c = search needs
 
 returns : tie.Need-returns
 returns c = answers (both c)
@@ -76,8 +76,8 @@ returns-2 c = let k = c .before .before .before in
 returns-3 : tie.Need-returns-3
 returns-3 c = let k = c .before .before .before in
     let a = k .before .args in
-    date-decided (a .hour) (a .minute) (a .second) (a .millisecond) (a .year) (a .month) (a .day) (refusalNumber (c .before .r2 .given .0 .0))
-    (ap numberOutcome (sym (c .before .r2 .given .1)) ∙ days-answer k)
+    date-decided (a .hour) (a .minute) (a .second) (a .millisecond) (a .year) (a .month) (a .day) (refusalNumber (c .before .of-date .given .0 .0))
+    (ap numberOutcome (sym (c .before .of-date .given .1)) ∙ days-answer k)
 
 pub join-instant-spec : {M : Type 1} → statement M
 join-instant-spec =
@@ -90,7 +90,7 @@ join-instant-spec =
     mul-t16
     add-t17
     enum-known-r
-    enum-known-r-2
+    enum-known-of-date
     returns
     returns-2
     returns-3)
