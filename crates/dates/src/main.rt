@@ -3,13 +3,17 @@
 // first, and the weekday.
 
 use calendar::DateAnswer;
+use calendar::range::FIRST_COUNT;
+use calendar::range::FIRST_YEAR;
+use calendar::range::LAST_YEAR;
 use refusal::NumberAnswer;
 
-const FIRST_COUNT: i64 = -719528;
+// How many years the range has.
+const YEARS: u32 = (LAST_YEAR - FIRST_YEAR + 1) as u32;
 
 fn main() {
-    for year in 0u32..10000 {
-        months(year as i64);
+    for year in 0u32..YEARS {
+        months(year as i64 + FIRST_YEAR);
     }
 }
 

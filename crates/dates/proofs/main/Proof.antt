@@ -1,19 +1,30 @@
 use borrow.Author.Needs.{needs}
-use Prim.Native.Nat.{_≤_, _-_}
+use native.Mathlib.Omega.{arith}
+use Rattle.numbers.proofs.Machine.{add-first}
+use Prim.Native.Nat.{ℕ, suc, _≤_, _-_}
+use Rattle.numbers.specs.Range.{since}
+use Rattle.calendar.specs.Range.{firstYear, lastYear}
 use Rattle.dates.proofs.main.Statement.{statement}
 use Rattle.dates.proofs.main.Tie as tie
 
+-- how many years the range has
+abbrev years : ℕ
+years = suc (since firstYear lastYear)
+
 abbrev Inv-loop : tie.InvT-loop
-Inv-loop year₀ year = year ≤ 10000
+Inv-loop year₀ year = year ≤ years
 
 abbrev μ-loop : tie.MeasureT-loop
-μ-loop year₀ year = 10000 - year
+μ-loop year₀ year = years - year
 
 loop-holds : tie.Need-loop-holds Inv-loop μ-loop
 loop-holds c = search needs
 
 cast-months : tie.Need-cast-months Inv-loop μ-loop
 cast-months c = search needs
+
+add-months : tie.Need-add-months Inv-loop μ-loop
+add-months c = add-first firstYear (c .before .loop .year) (omega arith)
 
 months-requires : tie.Need-months-requires Inv-loop μ-loop
 months-requires c κs = search needs
@@ -38,6 +49,7 @@ main-spec =
     μ-loop
     loop-holds
     cast-months
+    add-months
     months-requires
     add-year
     loop-less
