@@ -1,8 +1,9 @@
-/* The header's macros, structs and words against document 01's numbers. Compiled as C and as C++. */
+/* The header's macros, structs and words against document 01's numbers. Compiled as C and as C++, the header needing no other. */
+#include "ovenquill.h"
+
 #include <string.h>
 
 #include "checks.h"
-#include "ovenquill.h"
 #include "plain.h"
 
 #define SAME(macro, right) same(#macro, 0, macro, right)

@@ -9,6 +9,8 @@
 #include "plain.h"
 
 #define LABEL OVENQUILL_INSTANT_LABEL_BYTES
+#define RIGHT_LABEL "2023-05-10T14:30:00.000Z"
+#define RIGHT_INSTANT INT64_C(1683729000000)
 
 /* Each call at one input */
 
@@ -79,7 +81,7 @@ static void try_index(const int64_t *instants, size_t count, size_t days_length)
 
 /* What is tried */
 
-/* The ends of each range, of the hours' widths and of the signed 64-bit numbers, and document 01's instants. */
+/* The ends of each range, of the hours' widths and of the signed 64-bit numbers, and what stands around small ranges. */
 static const int64_t edges[] = {
     INT64_MIN, INT64_MIN + 1, INT64_MAX - 1, INT64_MAX,
     OVENQUILL_FIRST_YEAR - 1, OVENQUILL_FIRST_YEAR, OVENQUILL_LAST_YEAR, OVENQUILL_LAST_YEAR + 1,
@@ -88,7 +90,7 @@ static const int64_t edges[] = {
     OVENQUILL_FIRST_INSTANT - 1, OVENQUILL_FIRST_INSTANT, OVENQUILL_LAST_INSTANT, OVENQUILL_LAST_INSTANT + 1,
     INT64_MIN - OVENQUILL_FIRST_INSTANT, INT64_MAX - OVENQUILL_LAST_INSTANT,
     -OVENQUILL_INSTANTS_PER_DAY - 1, -OVENQUILL_INSTANTS_PER_DAY, -1, 0, 1, 11, 12, 13, 28, 29, 30, 31, 32,
-    OVENQUILL_INSTANTS_PER_DAY - 1, OVENQUILL_INSTANTS_PER_DAY, 951782400000, 1683729000000,
+    OVENQUILL_INSTANTS_PER_DAY - 1, OVENQUILL_INSTANTS_PER_DAY, RIGHT_INSTANT,
     OVENQUILL_LAST_POSITION, OVENQUILL_LAST_POSITION + 1, 4287767296, 359999999, 360000000, 3599999999, 3600000000,
     35999999999, 36000000000,
 };
@@ -108,7 +110,7 @@ static int64_t random_instant(void)
 /* Each edge as each number of each call. */
 static void check_edges(void)
 {
-    static const int64_t leap_day_end[7] = {2000, 2, 29, 23, 59, 59, 999};
+    static const int64_t leap_day_end[7] = {2000, 2, 29, 23, 59, 59, PAPER_SECOND - 1};
     size_t i, j;
     for (i = 0; i < COUNT(edges); i++) {
         const int64_t e = edges[i];
@@ -136,7 +138,7 @@ static void check_edges(void)
             fields[i] = edges[j];
             try_fields(fields);
         }
-        for (fields[i] = -2; fields[i] <= 1001; fields[i]++) {
+        for (fields[i] = -2; fields[i] <= PAPER_SECOND + 1; fields[i]++) {
             int64_t worse[7];
             try_fields(fields);
             memcpy(worse, fields, sizeof worse);
@@ -152,7 +154,7 @@ static void check_random(int rounds)
         const int64_t year = random_within(OVENQUILL_FIRST_YEAR - 9, OVENQUILL_LAST_YEAR + 9), month = random_within(0, 13);
         const int64_t width = INT64_C(1) << random_within(0, 44);
         const int64_t date_time[7] = {year, month, random_within(0, 32), random_within(-1, 24), random_within(-1, 60),
-                                      random_within(-1, 60), random_within(-1, 1000)};
+                                      random_within(-1, 60), random_within(-1, PAPER_SECOND)};
         try_date(year, month, random_within(-1, 33), random_within(-width, width));
         try_date(year, month, random_within(1, 28), random_within(-width, width));
         try_fields(date_time);
@@ -187,7 +189,7 @@ static void try_reading(int year, int month, int day, int hour, int minute, int 
 
 static void check_reader(void)
 {
-    static const char twice[] = "2023-05-10T14:30:00.000Z2023-05-10T14:30:00.000Z";
+    static const char twice[] = RIGHT_LABEL RIGHT_LABEL;
     uint8_t label[40];
     size_t i, n, byte;
     int year, k;
@@ -324,8 +326,8 @@ static void check_null(void)
  */
 static void check_unset(void)
 {
-    static const int64_t instant = 1683729000000;
-    static const char right[] = "2023-05-10T14:30:00.000Z", start[] = "00:00:00.000";
+    static const int64_t instant = RIGHT_INSTANT;
+    static const char right[] = RIGHT_LABEL, start[] = "00:00:00.000";
     uint8_t *label = (uint8_t *)malloc(LABEL), *position = (uint8_t *)malloc(strlen(start));
     int64_t *number = (int64_t *)malloc(sizeof *number);
     ovenquill_date *date = (ovenquill_date *)malloc(sizeof *date);

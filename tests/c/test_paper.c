@@ -72,6 +72,7 @@ static void check_instants(void)
 {
     static const int64_t instants[] = {-1, 0, 86399999, 86400000};
     static const int64_t right[] = {-1, 0, 0, 1};
+    static const char second_60[] = "2016-12-31T23:59:60.000Z";
     int32_t days[COUNT(instants)];
     int64_t instant = 0, place = 0;
     size_t i;
@@ -79,7 +80,7 @@ static void check_instants(void)
     check_instant(-1, -1, "1969-12-31T23:59:59.999Z");
     check_instant(-86400000, -1, "1969-12-31T00:00:00.000Z");
     check_instant(-86400001, -2, "1969-12-30T23:59:59.999Z");
-    same("second 60", 60, ovenquill_read_instant((const uint8_t *)"2016-12-31T23:59:60.000Z", 24, &instant),
+    same("second 60", 60, ovenquill_read_instant((const uint8_t *)second_60, strlen(second_60), &instant),
          OVENQUILL_TIME_OUT_OF_RANGE);
     same("index", 4, ovenquill_index_days(instants, COUNT(instants), days, COUNT(days), &place), 4);
     for (i = 0; i < COUNT(instants); i++)
