@@ -1,49 +1,60 @@
-# Ovenquill: `make` builds the archive and the sample player, `make demo` runs it, `make test` runs every test but the
-# proofs' own gate (`rt ci`), `make bench` prints the table of ratios, `make install PREFIX=..` installs for C and C++.
+# Ovenquill: `make` builds the archive and the C examples, `make demo` runs these, `make test` runs every test but the proofs' own
+# gate (`rt ci`), `make bench` prints the table of ratios, `make install PREFIX=..` installs for C and C++.
 
 PREFIX ?= /usr/local
-VERSION := 0.1.0
 CC ?= cc
 CXX ?= c++
-CFLAGS ?= -O2 -Wall -Wextra -Werror
-CXXFLAGS ?= -O2 -Wall -Wextra -Werror
+CFLAGS ?= -O2 -Wall -Wextra -Wconversion -pedantic -Werror
 
 LIB := build/lib/libovenquill.a
-HARNESS := build/lib/libovenquill_harness.a
+EXAMPLES := build/player build/check_claim
 RATTLE := crates.txt $(shell find crates -name '*.rt' -o -name '*.antt')
 
-.PHONY: all demo test test-c test-rust test-dates bench install clean
+# The version stands in the header, its three numbers a line each.
+VERSION := $(subst $() ,.,$(strip $(shell sed -n 's/^.define OVENQUILL_VERSION_[A-Z]* //p' include/ovenquill.h)))
 
-all: $(LIB) build/player
+.PHONY: all demo test test-dates test-declarations test-c test-examples test-install test-rust test-readme bench install clean
 
-# The archives: proved first, and only then built.
+all: $(LIB) $(EXAMPLES)
+
+# The archive: proved first, and only then built.
 $(LIB): $(RATTLE)
 	rt staticlib player
 	mkdir -p build/lib
 	cp target/staticlib/libplayer.a $@
 
-$(HARNESS): $(RATTLE)
-	rt staticlib harness
-	mkdir -p build/lib
-	cp target/staticlib/libharness.a $@
-
-build/player: examples/player.c include/ovenquill.h $(LIB)
+build/%: examples/%.c include/ovenquill.h $(LIB)
 	$(CC) $(CFLAGS) -std=c99 -Iinclude $< $(LIB) -o $@
 
-demo: build/player
-	printf '%s\n' 1683729000000 -1 0 951782400000 -62167219200000 253402300799999 | build/player
+demo: $(EXAMPLES)
+	printf '%s\n' 1683729000000 -1 0 951782400000 -2208988800000 | build/player
+	build/check_claim 1 0 10 26 0 8 0 69
 
-test: test-dates test-c test-rust
+test: test-dates test-declarations test-c test-examples test-install test-rust test-readme
 
 # The expected output of the program `dates` is what an independent program prints today.
 test-dates:
 	python3 tools/dates.py | cmp - crates/dates/stdout
 
-test-c: $(LIB) $(HARNESS) build/player
-	tests/c/run $(LIB) $(HARNESS)
+# The exports, the header and the Rust package declare the same calls; and the tool that says so sees a fault.
+test-declarations:
+	tools/check_declarations
+	tests/test_check_declarations.py
 
-test-rust: $(LIB) $(HARNESS)
-	cd rust && cargo test --release --quiet --features harness
+test-c: $(LIB)
+	tests/c/run $(LIB)
+
+test-examples: $(EXAMPLES)
+	tests/examples/run build
+
+test-install: $(LIB)
+	tests/install/run
+
+test-rust: $(LIB)
+	tests/rust/run
+
+test-readme: $(LIB)
+	tests/test_readme.py
 
 # libstdc++'s calendar is one of the rivals where there is a C++ compiler.
 build/chrono/libovenquill_chrono.a: rust/benches/chrono.cpp
@@ -56,15 +67,17 @@ CHRONO := build/chrono/libovenquill_chrono.a
 bench: export OVENQUILL_CHRONO := $(CURDIR)/build/chrono
 endif
 
-bench: $(LIB) $(HARNESS) $(CHRONO)
-	cd rust && cargo bench --quiet --features harness
+bench: $(LIB) $(CHRONO)
+	cd rust && cargo bench --quiet
 
 install: $(LIB)
-	install -d $(DESTDIR)$(PREFIX)/lib/pkgconfig $(DESTDIR)$(PREFIX)/include
-	install -m 644 $(LIB) $(DESTDIR)$(PREFIX)/lib/
-	install -m 644 include/ovenquill.h $(DESTDIR)$(PREFIX)/include/
-	printf 'prefix=%s\n\nName: ovenquill\nDescription: Weekdays of day counts and labels of instants, proved right\nVersion: %s\nLibs: -L$${prefix}/lib -lovenquill\nCflags: -I$${prefix}/include\n' \
-	  '$(PREFIX)' '$(VERSION)' > $(DESTDIR)$(PREFIX)/lib/pkgconfig/ovenquill.pc
+	install -d '$(DESTDIR)$(PREFIX)/lib/pkgconfig' '$(DESTDIR)$(PREFIX)/include'
+	install -m 644 $(LIB) '$(DESTDIR)$(PREFIX)/lib/'
+	install -m 644 include/ovenquill.h '$(DESTDIR)$(PREFIX)/include/'
+	printf '%s\n' 'prefix=$(PREFIX)' '' 'Name: ovenquill' \
+	  'Description: The Gregorian calendar, labels of instants and positions, and a checker of constants, proved right' \
+	  'Version: $(VERSION)' 'Libs: -L$${prefix}/lib -lovenquill' 'Cflags: -I$${prefix}/include' \
+	  > '$(DESTDIR)$(PREFIX)/lib/pkgconfig/ovenquill.pc'
 
 clean:
 	rm -rf build target rust/target

@@ -4,8 +4,9 @@
  *     player MILLISECONDS ..        instants as arguments
  *     player < FILE                 one instant to a line; empty lines are passed over
  *
- * An instant is a whole number of milliseconds from 1970-01-01 00:00 UTC. A line that is none gets a message on
- * standard error, and the others still get their labels. The exit status is 1 where an instant was bad or refused.
+ * An instant is a whole number of milliseconds from 1970-01-01 00:00 UTC. A line that is none gets a message on standard
+ * error, and the others still get their labels. The exit status is 1 where an instant was bad or refused, or where not
+ * everything could be read or written.
  */
 #include <errno.h>
 #include <inttypes.h>
@@ -15,27 +16,30 @@
 
 #include "ovenquill.h"
 
-static const char *const weekday_names[7] = {
-    "Sunday", "Monday", "Tuesday", "Wednesday", "Thursday", "Friday", "Saturday",
+static const char blanks[] = " \t\r";
+
+static const char *const weekday_names[] = {
+    [OVENQUILL_SUNDAY] = "Sunday",       [OVENQUILL_MONDAY] = "Monday",     [OVENQUILL_TUESDAY] = "Tuesday",
+    [OVENQUILL_WEDNESDAY] = "Wednesday", [OVENQUILL_THURSDAY] = "Thursday", [OVENQUILL_FRIDAY] = "Friday",
+    [OVENQUILL_SATURDAY] = "Saturday",
 };
 
-static const char *refusal_in_words(int64_t answer)
+/* Prints the label and the weekday of an instant, and answers 0, or what a refused call answered. */
+static int64_t print_label(int64_t instant)
 {
-    switch (answer) {
-    case OVENQUILL_OUT_OF_RANGE:
-        return "outside the years 0000 to 9999";
-    case OVENQUILL_BUFFER_TOO_SHORT:
-        return "buffer too short for the label";
-    default:
-        return "unknown refusal";
-    }
-}
-
-/* The day of an instant: the quotient rounded down, also below zero. */
-static int64_t day_of(int64_t ms)
-{
-    int64_t day = ms / 86400000;
-    return ms % 86400000 < 0 ? day - 1 : day;
+    uint8_t label[OVENQUILL_INSTANT_LABEL_BYTES];
+    int64_t written = ovenquill_write_instant(instant, label, sizeof label);
+    if (written < 0)
+        return written;
+    int64_t days;
+    int64_t answer = ovenquill_day_of_instant(instant, &days);
+    if (answer < 0)
+        return answer;
+    int64_t weekday = ovenquill_weekday(days);
+    if (weekday < 0)
+        return weekday;
+    printf("%.*s %s\n", (int)written, (const char *)label, weekday_names[weekday]);
+    return 0;
 }
 
 /* Prints the line of one instant; answers 0, or 1 where the text is no instant or is refused. */
@@ -43,8 +47,8 @@ static int show(const char *text)
 {
     char *end;
     errno = 0;
-    long long ms = strtoll(text, &end, 10);
-    if (end == text || end[strspn(end, " \t\r")] != '\0') {
+    long long instant = strtoll(text, &end, 10);
+    if (end == text || end[strspn(end, blanks)] != '\0') {
         fprintf(stderr, "player: \"%s\" is no whole number of milliseconds\n", text);
         return 1;
     }
@@ -52,38 +56,51 @@ static int show(const char *text)
         fprintf(stderr, "player: \"%s\" does not fit 64 bits\n", text);
         return 1;
     }
-    uint8_t label[OVENQUILL_INSTANT_LABEL_BYTES];
-    int64_t written = ovenquill_write_instant(ms, label, sizeof label);
-    if (written < 0) {
-        printf("%lld refused (%" PRId64 "): %s\n", ms, -written, refusal_in_words(written));
+    int64_t answer = print_label(instant);
+    if (answer < 0) {
+        printf("%lld refused (%" PRId64 "): %s\n", instant, -answer, ovenquill_refusal_text(answer));
         return 1;
     }
-    int64_t weekday = ovenquill_weekday(day_of(ms));
-    if (weekday < 0) {
-        printf("%lld refused (%" PRId64 "): %s\n", ms, -weekday, refusal_in_words(weekday));
-        return 1;
-    }
-    printf("%.*s %s\n", (int)written, (const char *)label, weekday_names[weekday]);
     return 0;
 }
 
-/* Shows each line of a stream; a line longer than the buffer is bad as a whole. */
+/* A line without its newline: as many of its bytes as the buffer holds, and how many the stream had. */
+struct line {
+    char text[256];
+    size_t length;
+    int has_zero_byte;
+};
+
+/* Reads the next line; answers 0 where there is none. */
+static int read_line(FILE *in, struct line *line)
+{
+    int c;
+    line->length = 0;
+    line->has_zero_byte = 0;
+    while ((c = getc(in)) != EOF && c != '\n') {
+        if (line->length < sizeof line->text - 1)
+            line->text[line->length] = (char)c;
+        line->length++;
+        line->has_zero_byte |= c == '\0';
+    }
+    line->text[line->length < sizeof line->text ? line->length : sizeof line->text - 1] = '\0';
+    return c != EOF || line->length != 0;
+}
+
+/* Shows each line of a stream; a line with a zero byte or longer than the buffer is bad as a whole. */
 static int show_lines(FILE *in)
 {
-    char line[256];
+    struct line line;
     int status = 0;
-    while (fgets(line, sizeof line, in) != NULL) {
-        size_t length = strcspn(line, "\n");
-        int cut = line[length] == '\0' && length + 1 == sizeof line;
-        line[length] = '\0';
-        if (cut) {
-            int c;
-            fprintf(stderr, "player: a line of more than %zu bytes is no instant\n", sizeof line - 2);
-            while ((c = getc(in)) != '\n' && c != EOF)
-                ;
+    while (!ferror(stdout) && read_line(in, &line)) {
+        if (line.length >= sizeof line.text) {
+            fprintf(stderr, "player: a line of more than %zu bytes is no instant\n", sizeof line.text - 1);
             status = 1;
-        } else if (line[strspn(line, " \t\r")] != '\0') {
-            status |= show(line);
+        } else if (line.has_zero_byte) {
+            fprintf(stderr, "player: a line with a zero byte is no instant\n");
+            status = 1;
+        } else if (line.text[strspn(line.text, blanks)] != '\0') {
+            status |= show(line.text);
         }
     }
     if (ferror(in)) {
@@ -93,12 +110,23 @@ static int show_lines(FILE *in)
     return status;
 }
 
+/* Closes standard output; answers 0, or 1 where not everything could be written to it. */
+static int close_output(void)
+{
+    int failed = ferror(stdout);
+    if (fclose(stdout) != 0 || failed) {
+        fprintf(stderr, "player: not everything could be written to standard output\n");
+        return 1;
+    }
+    return 0;
+}
+
 int main(int argc, char **argv)
 {
     int status = 0;
     if (argc < 2)
-        return show_lines(stdin);
+        status = show_lines(stdin);
     for (int i = 1; i < argc; i++)
         status |= show(argv[i]);
-    return status;
+    return status | close_output();
 }

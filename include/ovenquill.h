@@ -1,9 +1,23 @@
 /*
- * Ovenquill: weekdays of day counts and labels of instants, proved right.
+ * Ovenquill: the proleptic Gregorian calendar, labels of instants and of positions, and a checker of multiply-and-shift
+ * constants, proved right.
  *
- * Link with libovenquill.a (`pkg-config --cflags --libs ovenquill` after `make install`).
- * Both calls take any arguments, allocate nothing, keep no state and may be called from any thread.
- * A refusal is the refusal's number negated; the numbers are those of the table in README.md.
+ * For C99, C++11 and later ones. Link with libovenquill.a; after `make install`, `pkg-config --cflags --libs ovenquill` says
+ * how.
+ *
+ * Any numbers and any bytes may be handed in. A call allocates nothing, keeps no state and may be made from any thread.
+ *
+ * Every call returns 0 or more where it is done, and below 0 where it is refused: the refusal's number negated, which has a
+ * macro below. The refusals of a call are listed in the order in which they are looked for; the first whose cause holds is
+ * answered. A refused call changes nothing that was lent to it. Two refusals hand back more than their number: each writes
+ * that to a place of its own, `place` or `least`, which is unchanged after every other answer.
+ *
+ * What is asked of the pointers that are handed in:
+ *   - A pointer with a length points to that many elements. It may be null only where the length is 0.
+ *   - A pointer without a length points to one number or struct, and is not null.
+ *   - What is pointed to is valid for the whole call and aligned for its type.
+ *   - What is not const overlaps nothing else that is lent to the same call, and nobody else uses it meanwhile. What it
+ *     holds before the call makes no difference to the answer.
  */
 #ifndef OVENQUILL_H
 #define OVENQUILL_H
@@ -15,33 +29,303 @@
 extern "C" {
 #endif
 
-/* The bytes of an instant label, YYYY-MM-DDTHH:MM:SS.mmmZ; no zero byte is written behind it. */
-#define OVENQUILL_INSTANT_LABEL_BYTES 24
+/* The version of this header, in numbers and as a string. */
+#define OVENQUILL_VERSION_MAJOR 0
+#define OVENQUILL_VERSION_MINOR 1
+#define OVENQUILL_VERSION_PATCH 0
+#define OVENQUILL_VERSION OVENQUILL_DOTTED_(OVENQUILL_VERSION_MAJOR, OVENQUILL_VERSION_MINOR, OVENQUILL_VERSION_PATCH)
+#define OVENQUILL_DOTTED_(major, minor, patch) OVENQUILL_STRING_(major.minor.patch)
+#define OVENQUILL_STRING_(tokens) #tokens
 
-/* Answers of a refused call. */
-#define OVENQUILL_OUT_OF_RANGE (-4)     /* a day count or an instant outside the range */
-#define OVENQUILL_BUFFER_TOO_SHORT (-7) /* a buffer with fewer bytes than the label */
+/* Ranges, ends included. */
+
+/* Years. The calendar ends with the last day of the last year. */
+#define OVENQUILL_FIRST_YEAR INT64_C(0)
+#define OVENQUILL_LAST_YEAR INT64_C(9999)
+
+/* Day counts: days from 1970-01-01, below zero before it. */
+#define OVENQUILL_FIRST_COUNT (-INT64_C(719528))
+#define OVENQUILL_LAST_COUNT INT64_C(2932896)
+
+/* Instants: milliseconds from 1970-01-01 00:00 UTC, below zero before it. Every day has as many; there are no leap seconds. */
+#define OVENQUILL_INSTANTS_PER_DAY INT64_C(86400000)
+#define OVENQUILL_FIRST_INSTANT (OVENQUILL_FIRST_COUNT * OVENQUILL_INSTANTS_PER_DAY)
+#define OVENQUILL_LAST_INSTANT ((OVENQUILL_LAST_COUNT + 1) * OVENQUILL_INSTANTS_PER_DAY - 1)
+
+/* Positions: milliseconds from the start of a recording. */
+#define OVENQUILL_FIRST_POSITION INT64_C(0)
+#define OVENQUILL_LAST_POSITION INT64_C(359999999999)
+
+/* Constants on trial, the end of a search and the bound of a claim. */
+#define OVENQUILL_A_MIN INT64_C(1)
+#define OVENQUILL_A_MAX INT64_C(1023)
+#define OVENQUILL_B_MIN INT64_C(0)
+#define OVENQUILL_B_MAX INT64_C(1023)
+#define OVENQUILL_D_MIN INT64_C(1)
+#define OVENQUILL_D_MAX INT64_C(1048575)
+#define OVENQUILL_M_MIN INT64_C(0)
+#define OVENQUILL_M_MAX INT64_C(4294967295)
+#define OVENQUILL_C_MIN INT64_C(0)
+#define OVENQUILL_C_MAX INT64_C(4294967295)
+#define OVENQUILL_K_MIN INT64_C(0)
+#define OVENQUILL_K_MAX INT64_C(47)
+#define OVENQUILL_T_MIN INT64_C(0)
+#define OVENQUILL_T_MAX INT64_C(255)
+#define OVENQUILL_END_MIN INT64_C(0)
+#define OVENQUILL_END_MAX INT64_C(4294967295)
+#define OVENQUILL_BOUND_MIN INT64_C(0)
+#define OVENQUILL_BOUND_MAX INT64_C(4294967294)
+
+/* The bytes of an instant label, and the fewest and the most of a position label. No zero byte is written behind a label. */
+#define OVENQUILL_INSTANT_LABEL_BYTES 24
+#define OVENQUILL_POSITION_LABEL_MIN_BYTES 12
+#define OVENQUILL_POSITION_LABEL_MAX_BYTES 15
+
+/* Weekdays: what ovenquill_weekday answers. */
+#define OVENQUILL_SUNDAY 0
+#define OVENQUILL_MONDAY 1
+#define OVENQUILL_TUESDAY 2
+#define OVENQUILL_WEDNESDAY 3
+#define OVENQUILL_THURSDAY 4
+#define OVENQUILL_FRIDAY 5
+#define OVENQUILL_SATURDAY 6
+
+/* Refusals, as the calls answer them: the number of README.md's table, negated. */
+#define OVENQUILL_YEAR_OUT_OF_RANGE (-1)
+#define OVENQUILL_MONTH_OUT_OF_RANGE (-2)
+#define OVENQUILL_DAY_OUT_OF_RANGE (-3)
+#define OVENQUILL_OUT_OF_RANGE (-4)
+#define OVENQUILL_TIME_OUT_OF_RANGE (-5)
+#define OVENQUILL_POSITION_OUT_OF_RANGE (-6)
+#define OVENQUILL_BUFFER_TOO_SHORT (-7)
+#define OVENQUILL_MALFORMED_LABEL (-8)
+#define OVENQUILL_CONSTANT_OUT_OF_LIMITS (-9)
+#define OVENQUILL_DIFFERENCE_BELOW_BOUND (-10)
+#define OVENQUILL_NO_DIFFERENCE_UP_TO_BOUND (-11)
+#define OVENQUILL_UNEQUAL_LENGTHS (-12)
+
+/* A refusal in words, by what a call answered. Any number may be handed in; the text is never null and is not to be freed. */
+static inline const char *ovenquill_refusal_text(int64_t answer)
+{
+    switch (answer) {
+    case OVENQUILL_YEAR_OUT_OF_RANGE:
+        return "year outside the calendar";
+    case OVENQUILL_MONTH_OUT_OF_RANGE:
+        return "month outside 1 to 12";
+    case OVENQUILL_DAY_OUT_OF_RANGE:
+        return "day that its month does not have";
+    case OVENQUILL_OUT_OF_RANGE:
+        return "day count, instant or shifted date outside the calendar";
+    case OVENQUILL_TIME_OUT_OF_RANGE:
+        return "hour, minute, second or millisecond outside its range";
+    case OVENQUILL_POSITION_OUT_OF_RANGE:
+        return "position outside its range";
+    case OVENQUILL_BUFFER_TOO_SHORT:
+        return "buffer shorter than the label";
+    case OVENQUILL_MALFORMED_LABEL:
+        return "not the shape of an instant label";
+    case OVENQUILL_CONSTANT_OUT_OF_LIMITS:
+        return "constant, search end or claimed bound outside its limits";
+    case OVENQUILL_DIFFERENCE_BELOW_BOUND:
+        return "a difference stands below the claimed bound";
+    case OVENQUILL_NO_DIFFERENCE_UP_TO_BOUND:
+        return "no difference at or below the claimed bound";
+    case OVENQUILL_UNEQUAL_LENGTHS:
+        return "index lists of unequal length";
+    default:
+        return answer < 0 ? "unknown refusal" : "not refused";
+    }
+}
+
+/* A date: month 1 to 12, day 1 to the length of the month. */
+typedef struct ovenquill_date {
+    int64_t year;
+    int64_t month;
+    int64_t day;
+} ovenquill_date;
+
+/* The date and the time of day of an instant: hour 0 to 23, minute and second 0 to 59, millisecond 0 to 999. */
+typedef struct ovenquill_fields {
+    int64_t year;
+    int64_t month;
+    int64_t day;
+    int64_t hour;
+    int64_t minute;
+    int64_t second;
+    int64_t millisecond;
+} ovenquill_fields;
+
+/* The calendar: Gregorian, run backwards without a break; year 0 is leap. */
 
 /*
- * The weekday of a day count: 0 Sunday to 6 Saturday.
+ * The day count of a date. Writes it to `days` and answers 0.
  *
- * days: days from 1970-01-01, negative before it; -719528 (0000-01-01) to 2932896 (9999-12-31).
- * Answers OVENQUILL_OUT_OF_RANGE for any other count.
+ * Refusals, after which `days` is unchanged:
+ *   OVENQUILL_YEAR_OUT_OF_RANGE    year outside OVENQUILL_FIRST_YEAR to OVENQUILL_LAST_YEAR
+ *   OVENQUILL_MONTH_OUT_OF_RANGE   month outside 1 to 12
+ *   OVENQUILL_DAY_OUT_OF_RANGE     day outside 1 to the length of that month
+ */
+int64_t ovenquill_days_from_civil(int64_t year, int64_t month, int64_t day, int64_t *days);
+
+/*
+ * The date of a day count. Writes it to `date` and answers 0.
+ *
+ * Refusal, after which `date` is unchanged:
+ *   OVENQUILL_OUT_OF_RANGE   days outside OVENQUILL_FIRST_COUNT to OVENQUILL_LAST_COUNT
+ */
+int64_t ovenquill_civil_from_days(int64_t days, ovenquill_date *date);
+
+/*
+ * The weekday of a day count. Answers it, one of the weekdays above.
+ *
+ * Refusal:
+ *   OVENQUILL_OUT_OF_RANGE   days outside OVENQUILL_FIRST_COUNT to OVENQUILL_LAST_COUNT
  */
 int64_t ovenquill_weekday(int64_t days);
 
 /*
- * Writes the label of an instant to the front of a buffer, in the proleptic Gregorian calendar and UTC.
+ * Whether a year is leap. Answers 1 if it is, 0 if not.
  *
- * ms:     milliseconds from 1970-01-01 00:00, negative before it; -62167219200000 (0000-01-01T00:00:00.000Z)
- *         to 253402300799999 (9999-12-31T23:59:59.999Z).
- * out:    the buffer. It may be null only where length is 0: that is a buffer too short for any label.
- * length: how many bytes of it are lent to the call; 24 are enough.
- *
- * Answers 24, the bytes written; the bytes behind them are unchanged. Answers OVENQUILL_OUT_OF_RANGE for an instant
- * outside the range, and else OVENQUILL_BUFFER_TOO_SHORT for a length below 24; then no byte of the buffer is changed.
+ * Refusal:
+ *   OVENQUILL_YEAR_OUT_OF_RANGE   year outside OVENQUILL_FIRST_YEAR to OVENQUILL_LAST_YEAR
  */
-int64_t ovenquill_write_instant(int64_t ms, uint8_t *out, size_t length);
+int64_t ovenquill_is_leap(int64_t year);
+
+/*
+ * The length of a month. Answers its last day, 28 to 31.
+ *
+ * Refusals:
+ *   OVENQUILL_YEAR_OUT_OF_RANGE    year outside OVENQUILL_FIRST_YEAR to OVENQUILL_LAST_YEAR
+ *   OVENQUILL_MONTH_OUT_OF_RANGE   month outside 1 to 12
+ */
+int64_t ovenquill_last_day_of_month(int64_t year, int64_t month);
+
+/*
+ * The day of the year of a date. Answers it: 1 for the first of January, to 365, or 366 in a leap year.
+ *
+ * Refusals:
+ *   OVENQUILL_YEAR_OUT_OF_RANGE    year outside OVENQUILL_FIRST_YEAR to OVENQUILL_LAST_YEAR
+ *   OVENQUILL_MONTH_OUT_OF_RANGE   month outside 1 to 12
+ *   OVENQUILL_DAY_OUT_OF_RANGE     day outside 1 to the length of that month
+ */
+int64_t ovenquill_day_of_year(int64_t year, int64_t month, int64_t day);
+
+/*
+ * The date that lies a number of days behind a date, or before it where that number is below zero: the one whose day count is
+ * the sum. Writes it to `date` and answers 0. The sum is taken in whole numbers, so none wraps.
+ *
+ * Refusals, after which `date` is unchanged:
+ *   OVENQUILL_YEAR_OUT_OF_RANGE    year outside OVENQUILL_FIRST_YEAR to OVENQUILL_LAST_YEAR
+ *   OVENQUILL_MONTH_OUT_OF_RANGE   month outside 1 to 12
+ *   OVENQUILL_DAY_OUT_OF_RANGE     day outside 1 to the length of that month
+ *   OVENQUILL_OUT_OF_RANGE         the sum outside OVENQUILL_FIRST_COUNT to OVENQUILL_LAST_COUNT
+ */
+int64_t ovenquill_add_days(int64_t year, int64_t month, int64_t day, int64_t days, ovenquill_date *date);
+
+/* Instants. */
+
+/*
+ * The day count of an instant: its quotient by OVENQUILL_INSTANTS_PER_DAY, rounded toward minus infinity. Writes it to `days`
+ * and answers 0.
+ *
+ * Refusal, after which `days` is unchanged:
+ *   OVENQUILL_OUT_OF_RANGE   instant outside OVENQUILL_FIRST_INSTANT to OVENQUILL_LAST_INSTANT
+ */
+int64_t ovenquill_day_of_instant(int64_t instant, int64_t *days);
+
+/*
+ * The date and the time of day of an instant. Writes them to `fields` and answers 0.
+ *
+ * Refusal, after which `fields` is unchanged:
+ *   OVENQUILL_OUT_OF_RANGE   instant outside OVENQUILL_FIRST_INSTANT to OVENQUILL_LAST_INSTANT
+ */
+int64_t ovenquill_split_instant(int64_t instant, ovenquill_fields *fields);
+
+/*
+ * The instant of a date and a time of day. Writes it to `instant` and answers 0.
+ *
+ * Refusals, after which `instant` is unchanged:
+ *   OVENQUILL_YEAR_OUT_OF_RANGE    year outside OVENQUILL_FIRST_YEAR to OVENQUILL_LAST_YEAR
+ *   OVENQUILL_MONTH_OUT_OF_RANGE   month outside 1 to 12
+ *   OVENQUILL_DAY_OUT_OF_RANGE     day outside 1 to the length of that month
+ *   OVENQUILL_TIME_OUT_OF_RANGE    hour outside 0 to 23, minute or second outside 0 to 59, or millisecond outside 0 to 999
+ */
+int64_t ovenquill_join_instant(int64_t year, int64_t month, int64_t day, int64_t hour, int64_t minute, int64_t second,
+                               int64_t millisecond, int64_t *instant);
+
+/*
+ * The days of a recording index. Writes the day count of each instant, as ovenquill_day_of_instant gives it, to the same place
+ * of `days`, and answers how many it wrote, `count`; two empty lists are accepted. `place` is then unchanged.
+ *
+ * Refusals, after which no element of `days` is changed:
+ *   OVENQUILL_UNEQUAL_LENGTHS   count is not days_length; `place` is unchanged
+ *   OVENQUILL_OUT_OF_RANGE      an instant outside OVENQUILL_FIRST_INSTANT to OVENQUILL_LAST_INSTANT; the place of the first
+ *                               such, counted from 0, is written to `place`
+ */
+int64_t ovenquill_index_days(const int64_t *instants, size_t count, int32_t *days, size_t days_length, int64_t *place);
+
+/* Instant labels: YYYY-MM-DDTHH:MM:SS.mmmZ, a form of RFC 3339. */
+
+/*
+ * Writes the label of an instant to the front of `out`, and answers the bytes written, OVENQUILL_INSTANT_LABEL_BYTES. The
+ * bytes behind them are unchanged.
+ *
+ * Refusals, after which no byte of `out` is changed:
+ *   OVENQUILL_OUT_OF_RANGE       instant outside OVENQUILL_FIRST_INSTANT to OVENQUILL_LAST_INSTANT
+ *   OVENQUILL_BUFFER_TOO_SHORT   length below OVENQUILL_INSTANT_LABEL_BYTES
+ */
+int64_t ovenquill_write_instant(int64_t instant, uint8_t *out, size_t length);
+
+/*
+ * Reads a label, whose T and Z are capitals. Writes its instant to `instant` and answers 0. What it reads is what
+ * ovenquill_write_instant writes for that instant, byte for byte.
+ *
+ * Refusals, after which `instant` is unchanged:
+ *   OVENQUILL_MALFORMED_LABEL      length other than OVENQUILL_INSTANT_LABEL_BYTES, a byte that is no decimal digit where one
+ *                                  stands, or a wrong mark
+ *   OVENQUILL_MONTH_OUT_OF_RANGE   month outside 1 to 12
+ *   OVENQUILL_DAY_OUT_OF_RANGE     day outside 1 to the length of that month
+ *   OVENQUILL_TIME_OUT_OF_RANGE    hour above 23, or minute or second above 59
+ */
+int64_t ovenquill_read_instant(const uint8_t *label, size_t length, int64_t *instant);
+
+/* Position labels: hours, of at least two digits and with no other leading zero, and :MM:SS.mmm, as in WebVTT. */
+
+/*
+ * Writes the label of a position to the front of `out`, and answers the bytes written, OVENQUILL_POSITION_LABEL_MIN_BYTES to
+ * OVENQUILL_POSITION_LABEL_MAX_BYTES. The bytes behind them are unchanged.
+ *
+ * Refusals, after which no byte of `out` is changed:
+ *   OVENQUILL_POSITION_OUT_OF_RANGE   position outside OVENQUILL_FIRST_POSITION to OVENQUILL_LAST_POSITION
+ *   OVENQUILL_BUFFER_TOO_SHORT        length below the bytes of this position's label
+ */
+int64_t ovenquill_write_position(int64_t position, uint8_t *out, size_t length);
+
+/*
+ * Constants on trial. The exact quotient at n is (a*n + b) / d, rounded down; the device's quotient is (m*n + c) >> k. A
+ * difference at n means that the two are more than t apart. n is a whole number from 0.
+ */
+
+/*
+ * The first difference. Answers the least n below `end` with a difference, or `end` where there is none below it.
+ *
+ * Refusal:
+ *   OVENQUILL_CONSTANT_OUT_OF_LIMITS   any of the eight outside OVENQUILL_A_MIN to OVENQUILL_A_MAX, .., OVENQUILL_END_MIN to
+ *                                      OVENQUILL_END_MAX
+ */
+int64_t ovenquill_first_difference(int64_t a, int64_t b, int64_t d, int64_t m, int64_t c, int64_t k, int64_t t, int64_t end);
+
+/*
+ * The claim that the least n with a difference is `bound`. Answers 0 where it is; `least` is then unchanged.
+ *
+ * Refusals:
+ *   OVENQUILL_CONSTANT_OUT_OF_LIMITS      any of the eight outside OVENQUILL_A_MIN to OVENQUILL_A_MAX, .., OVENQUILL_BOUND_MIN
+ *                                         to OVENQUILL_BOUND_MAX; `least` is unchanged
+ *   OVENQUILL_DIFFERENCE_BELOW_BOUND      a difference below bound; the least n with one is written to `least`
+ *   OVENQUILL_NO_DIFFERENCE_UP_TO_BOUND   no difference at any n up to bound, bound included; `least` is unchanged
+ */
+int64_t ovenquill_check_bound(int64_t a, int64_t b, int64_t d, int64_t m, int64_t c, int64_t k, int64_t t, int64_t bound,
+                              int64_t *least);
 
 #ifdef __cplusplus
 }

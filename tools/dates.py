@@ -1,29 +1,51 @@
 #!/usr/bin/env python3
-"""Prints the first and the last day of every month of the years 0 to 9999, from Python's datetime.
+"""Prints the first and the last day of every month of the calendar, from Python's datetime.
 
-A line for each month; for each of the two days: year, month, day, the days from 0000-01-01, and the weekday (0 Sunday
-to 6 Saturday). Shares nothing with the library: it is what the program `dates` is held to. Year 0, which datetime
-does not have, is year 400 moved by a cycle of 400 years, 146097 days, which are whole weeks.
+A line for each month; for each of the two days: year, month, day, the days from the first day of the first year, and the
+weekday. Shares nothing with the library: it is what the program `dates` is held to. A year that datetime does not have is moved
+by cycles of 400 years into those that it has; a cycle is 146097 days, which are whole weeks.
 """
-from datetime import date, timedelta
+from datetime import MAXYEAR, MINYEAR, date, timedelta
 
-FIRST = date(1, 1, 1).toordinal() - 366     # year 0 is leap
+# Document 01, "Calendar rules".
+FIRST_YEAR, LAST_YEAR = 0, 9999
+WEEKDAYS = [1, 2, 3, 4, 5, 6, 0]    # the numbers of Monday to Sunday
+
+CYCLE_YEARS, CYCLE_DAYS = 400, 146097
 
 
-def shown(day, moved):
-    year = day.year - 400 * moved
-    days = day.toordinal() - FIRST - 146097 * moved
-    return f"{year} {day.month} {day.day} {days} {day.isoweekday() % 7}"
+def cycles_into_datetime(year):
+    """By how many cycles a year is moved."""
+    cycles = 0
+    while year + CYCLE_YEARS * cycles < MINYEAR:
+        cycles += 1
+    while year + CYCLE_YEARS * cycles > MAXYEAR:
+        cycles -= 1
+    return cycles
+
+
+def ordinal(day, cycles):
+    """datetime's number of a day, moved back."""
+    return day.toordinal() - CYCLE_DAYS * cycles
+
+
+def shown(day, cycles):
+    year = day.year - CYCLE_YEARS * cycles
+    return f"{year} {day.month} {day.day} {ordinal(day, cycles) - FIRST} {WEEKDAYS[day.weekday()]}"
+
+
+FIRST_CYCLES = cycles_into_datetime(FIRST_YEAR)
+FIRST = ordinal(date(FIRST_YEAR + CYCLE_YEARS * FIRST_CYCLES, 1, 1), FIRST_CYCLES)
 
 
 def main():
-    for year in range(10000):
-        moved = 1 if year == 0 else 0
+    for year in range(FIRST_YEAR, LAST_YEAR + 1):
+        cycles = cycles_into_datetime(year)
         for month in range(1, 13):
-            first = date(year + 400 * moved, month, 1)
-            # the last day of a month is the one before the next month's first; 9999-12 has 31 days
+            first = date(year + CYCLE_YEARS * cycles, month, 1)
+            # the last day of a month is the one before the next month's first; December has 31 days
             last = first.replace(day=31) if month == 12 else first.replace(month=month + 1) - timedelta(days=1)
-            print(shown(first, moved), shown(last, moved))
+            print(shown(first, cycles), shown(last, cycles))
 
 
 main()

@@ -1,7 +1,8 @@
 /*
  * Document 01 in plain C, written from its text and sharing nothing with the library: years are counted one by one, labels
- * go by snprintf, the reader goes byte by byte, and the constants by trying every n. Each call here answers what the test
- * archive's call of the same name must write to its answer.
+ * go by snprintf, the reader goes byte by byte, and the constants by trying every n. Each call here has the answer, and leaves
+ * in what it is lent the bytes, that the library's call of the same name must have and leave: a date is three numbers, fields
+ * are seven.
  */
 #ifndef PLAIN_H
 #define PLAIN_H
@@ -9,65 +10,58 @@
 #include <stddef.h>
 #include <stdint.h>
 
-#define FIRST_DAY (-719528LL)
-#define LAST_DAY 2932896LL
-#define DAY_MS 86400000LL
-#define FIRST_INSTANT (-62167219200000LL)
-#define LAST_INSTANT 253402300799999LL
-#define LAST_POSITION 359999999999LL
+/* Document 01's numbers, in the order of its sections. */
 
-/* How many numbers an answer has, and these: its kind (0 a value, 1 a refusal, 2 a refusal with a place), what it hands
- * back, and zeros. */
-struct numbers {
-    size_t size;
-    int64_t n[8];
-};
+#define PAPER_FIRST_YEAR 0
+#define PAPER_LAST_YEAR 9999
+#define PAPER_FIRST_COUNT (-719528)
+#define PAPER_LAST_COUNT 2932896
 
-struct fields {
-    int64_t year, month, day, hour, minute, second, millisecond;
-};
+enum paper_weekday { SUNDAY, MONDAY, TUESDAY, WEDNESDAY, THURSDAY, FRIDAY, SATURDAY };
+
+/* The weekdays of day 0 and of the six behind it. */
+static const int64_t paper_week[7] = {THURSDAY, FRIDAY, SATURDAY, SUNDAY, MONDAY, TUESDAY, WEDNESDAY};
+
+#define PAPER_FIRST_INSTANT (-62167219200000LL)
+#define PAPER_LAST_INSTANT 253402300799999LL
+#define PAPER_DAY 86400000LL
+#define PAPER_SECOND 1000
+#define PAPER_INSTANT_LABEL_BYTES 24
+#define PAPER_LAST_POSITION 359999999999LL
+#define PAPER_POSITION_LABEL_MIN_BYTES 12
+#define PAPER_POSITION_LABEL_MAX_BYTES 15
 
 /* Constants on trial: (a*n + b) / d by (m*n + c) >> k, within t. */
 struct constants {
     int64_t a, b, d, m, c, k, t;
 };
 
+static const struct constants paper_least = {1, 0, 1, 0, 0, 0, 0};
+static const struct constants paper_most = {1023, 1023, 1048575, 4294967295LL, 4294967295LL, 47, 255};
+
+#define PAPER_END_MAX 4294967295LL
+#define PAPER_BOUND_MAX 4294967294LL
+#define PAPER_LAST_REFUSAL 12
+
 /* The length of a month, 1 to 12. */
 int64_t plain_month_length(int64_t year, int64_t month);
 
-struct numbers plain_days_from_civil(int64_t year, int64_t month, int64_t day);
-struct numbers plain_civil_from_days(int64_t days);
-struct numbers plain_weekday_from_days(int64_t days);
-struct numbers plain_is_leap(int64_t year);
-struct numbers plain_last_day_of_month(int64_t year, int64_t month);
-struct numbers plain_day_of_year(int64_t year, int64_t month, int64_t day);
-struct numbers plain_add_days(int64_t year, int64_t month, int64_t day, int64_t days);
-struct numbers plain_day_of_instant(int64_t ms);
-struct numbers plain_split_instant(int64_t ms);
-struct numbers plain_join_instant(struct fields f);
-struct numbers plain_index_days(const int64_t *instants, size_t instants_length, int32_t *days, size_t days_length);
-struct numbers plain_write_instant(int64_t ms, uint8_t *out, size_t length);
-struct numbers plain_read_instant(const uint8_t *label, size_t length);
-struct numbers plain_write_position(int64_t ms, uint8_t *out, size_t length);
-struct numbers plain_first_difference(struct constants q, int64_t end);
-struct numbers plain_check_bound(struct constants q, int64_t bound);
-struct numbers plain_refusal_number(int64_t place);
-
-static inline struct numbers answer_of(size_t size, int64_t kind, int64_t a, int64_t b, int64_t c)
-{
-    struct numbers r = {size, {kind, a, b, c, 0, 0, 0, 0}};
-    return r;
-}
-
-static inline struct numbers value(int64_t n)
-{
-    return answer_of(3, 0, n, 0, 0);
-}
-
-static inline struct numbers refused(int64_t refusal)
-{
-    return answer_of(3, 1, refusal, 0, 0);
-}
+int64_t plain_days_from_civil(int64_t year, int64_t month, int64_t day, int64_t *days);
+int64_t plain_civil_from_days(int64_t days, int64_t *date);
+int64_t plain_weekday(int64_t days);
+int64_t plain_is_leap(int64_t year);
+int64_t plain_last_day_of_month(int64_t year, int64_t month);
+int64_t plain_day_of_year(int64_t year, int64_t month, int64_t day);
+int64_t plain_add_days(int64_t year, int64_t month, int64_t day, int64_t days, int64_t *date);
+int64_t plain_day_of_instant(int64_t instant, int64_t *days);
+int64_t plain_split_instant(int64_t instant, int64_t *fields);
+int64_t plain_join_instant(const int64_t *fields, int64_t *instant);
+int64_t plain_index_days(const int64_t *instants, size_t count, int32_t *days, size_t days_length, int64_t *place);
+int64_t plain_write_instant(int64_t instant, uint8_t *out, size_t length);
+int64_t plain_read_instant(const uint8_t *label, size_t length, int64_t *instant);
+int64_t plain_write_position(int64_t position, uint8_t *out, size_t length);
+int64_t plain_first_difference(struct constants q, int64_t end);
+int64_t plain_check_bound(struct constants q, int64_t bound, int64_t *least);
 
 static inline int outside(int64_t first, int64_t last, int64_t n)
 {

@@ -1,10 +1,12 @@
-/* Constants on trial and the refusals' numbers: document 01, "Constants on trial", "The numbered refusals". */
+/* Constants on trial: document 01, "Constants on trial". */
 #include "plain.h"
 
 static int allowed(struct constants q)
 {
-    return !(outside(1, 1023, q.a) || outside(0, 1023, q.b) || outside(1, 1048575, q.d) || outside(0, 4294967295LL, q.m)
-             || outside(0, 4294967295LL, q.c) || outside(0, 47, q.k) || outside(0, 255, q.t));
+    const struct constants least = paper_least, most = paper_most;
+    return !(outside(least.a, most.a, q.a) || outside(least.b, most.b, q.b) || outside(least.d, most.d, q.d)
+             || outside(least.m, most.m, q.m) || outside(least.c, most.c, q.c) || outside(least.k, most.k, q.k)
+             || outside(least.t, most.t, q.t));
 }
 
 /* Whether the two quotients of allowed constants are more than t apart at n. */
@@ -24,28 +26,21 @@ static int64_t scan(struct constants q, int64_t end)
     return n;
 }
 
-struct numbers plain_first_difference(struct constants q, int64_t end)
+int64_t plain_first_difference(struct constants q, int64_t end)
 {
-    int64_t least;
-    if (!allowed(q) || outside(0, 4294967295LL, end))
-        return refused(9);
-    least = scan(q, end);
-    return least < end ? answer_of(3, 0, 1, least, 0) : answer_of(3, 0, 0, 0, 0);
+    return allowed(q) && !outside(0, PAPER_END_MAX, end) ? scan(q, end) : -9;
 }
 
-struct numbers plain_check_bound(struct constants q, int64_t bound)
+int64_t plain_check_bound(struct constants q, int64_t bound, int64_t *least)
 {
-    int64_t least;
-    if (!allowed(q) || outside(0, 4294967294LL, bound))
-        return refused(9);
-    least = scan(q, bound + 1);
-    if (least > bound)
-        return refused(11);
-    return least < bound ? answer_of(3, 2, 10, least, 0) : answer_of(3, 0, 0, 0, 0);
-}
-
-/* The library's enum has the refusals in the order of document 01's table, 1 to 12. */
-struct numbers plain_refusal_number(int64_t place)
-{
-    return outside(0, 11, place) ? refused(0) : value(place + 1);
+    int64_t first;
+    if (!allowed(q) || outside(0, PAPER_BOUND_MAX, bound))
+        return -9;
+    first = scan(q, bound + 1);
+    if (first > bound)
+        return -11;
+    if (first == bound)
+        return 0;
+    *least = first;
+    return -10;
 }

@@ -4,101 +4,106 @@
 
 #include "plain.h"
 
-struct numbers plain_day_of_instant(int64_t ms)
+#define MINUTE (60 * PAPER_SECOND)
+#define HOUR (60 * MINUTE)
+
+int64_t plain_day_of_instant(int64_t instant, int64_t *days)
 {
-    return outside(FIRST_INSTANT, LAST_INSTANT, ms) ? refused(4) : value((ms - FIRST_INSTANT) / DAY_MS + FIRST_DAY);
+    if (outside(PAPER_FIRST_INSTANT, PAPER_LAST_INSTANT, instant))
+        return -4;
+    *days = (instant - PAPER_FIRST_INSTANT) / PAPER_DAY + PAPER_FIRST_COUNT;
+    return 0;
 }
 
-struct numbers plain_split_instant(int64_t ms)
+int64_t plain_split_instant(int64_t instant, int64_t *fields)
 {
-    struct numbers day = plain_day_of_instant(ms), r;
-    int64_t time = day.n[0] == 0 ? (ms - FIRST_INSTANT) % DAY_MS : 0;
-    if (day.n[0] != 0)
-        return answer_of(8, 1, day.n[1], 0, 0);
-    r = plain_civil_from_days(day.n[1]);
-    r.size = 8;
-    r.n[4] = time / 3600000;
-    r.n[5] = time / 60000 % 60;
-    r.n[6] = time / 1000 % 60;
-    r.n[7] = time % 1000;
-    return r;
+    int64_t days, time;
+    if (plain_day_of_instant(instant, &days) != 0)
+        return -4;
+    plain_civil_from_days(days, fields);
+    time = instant - days * PAPER_DAY;
+    fields[3] = time / HOUR;
+    fields[4] = time % HOUR / MINUTE;
+    fields[5] = time % MINUTE / PAPER_SECOND;
+    fields[6] = time % PAPER_SECOND;
+    return 0;
 }
 
-struct numbers plain_join_instant(struct fields f)
+int64_t plain_join_instant(const int64_t *fields, int64_t *instant)
 {
-    struct numbers day = plain_days_from_civil(f.year, f.month, f.day);
-    if (day.n[0] != 0)
-        return day;
-    if (outside(0, 23, f.hour) || outside(0, 59, f.minute) || outside(0, 59, f.second) || outside(0, 999, f.millisecond))
-        return refused(5);
-    return value(day.n[1] * DAY_MS + ((f.hour * 60 + f.minute) * 60 + f.second) * 1000 + f.millisecond);
+    int64_t days;
+    int64_t refusal = plain_days_from_civil(fields[0], fields[1], fields[2], &days);
+    if (refusal != 0)
+        return refusal;
+    if (outside(0, 23, fields[3]) || outside(0, 59, fields[4]) || outside(0, 59, fields[5])
+        || outside(0, PAPER_SECOND - 1, fields[6]))
+        return -5;
+    *instant = days * PAPER_DAY + fields[3] * HOUR + fields[4] * MINUTE + fields[5] * PAPER_SECOND + fields[6];
+    return 0;
 }
 
-struct numbers plain_index_days(const int64_t *instants, size_t instants_length, int32_t *days, size_t days_length)
+int64_t plain_index_days(const int64_t *instants, size_t count, int32_t *days, size_t days_length, int64_t *place)
 {
     size_t i;
-    if (instants_length != days_length)
-        return refused(12);
-    for (i = 0; i < instants_length; i++)
-        if (outside(FIRST_INSTANT, LAST_INSTANT, instants[i]))
-            return answer_of(3, 2, 4, (int64_t)i, 0);
-    for (i = 0; i < instants_length; i++)
-        days[i] = (int32_t)plain_day_of_instant(instants[i]).n[1];
-    return value((int64_t)instants_length);
+    if (count != days_length)
+        return -12;
+    for (i = 0; i < count; i++)
+        if (outside(PAPER_FIRST_INSTANT, PAPER_LAST_INSTANT, instants[i])) {
+            *place = (int64_t)i;
+            return -4;
+        }
+    for (i = 0; i < count; i++) {
+        int64_t day = 0;
+        plain_day_of_instant(instants[i], &day);
+        days[i] = (int32_t)day;
+    }
+    return (int64_t)count;
 }
 
 /* Writes a label to the front of a buffer, if it is long enough. */
-static struct numbers put(const char *label, uint8_t *out, size_t length)
+static int64_t put(const char *label, uint8_t *out, size_t length)
 {
     if (length < strlen(label))
-        return refused(7);
+        return -7;
     memcpy(out, label, strlen(label));
-    return value((int64_t)strlen(label));
+    return (int64_t)strlen(label);
 }
 
-struct numbers plain_write_instant(int64_t ms, uint8_t *out, size_t length)
+int64_t plain_write_instant(int64_t instant, uint8_t *out, size_t length)
 {
-    struct numbers f = plain_split_instant(ms);
+    int64_t f[7];
     char label[80];
-    if (f.n[0] != 0)
-        return refused(f.n[1]);
-    snprintf(label, sizeof label, "%04d-%02d-%02dT%02d:%02d:%02d.%03dZ", (int)f.n[1], (int)f.n[2], (int)f.n[3], (int)f.n[4],
-             (int)f.n[5], (int)f.n[6], (int)f.n[7]);
+    if (plain_split_instant(instant, f) != 0)
+        return -4;
+    snprintf(label, sizeof label, "%04d-%02d-%02dT%02d:%02d:%02d.%03dZ", (int)f[0], (int)f[1], (int)f[2], (int)f[3], (int)f[4],
+             (int)f[5], (int)f[6]);
     return put(label, out, length);
 }
 
-struct numbers plain_write_position(int64_t ms, uint8_t *out, size_t length)
-{
-    char label[80];
-    if (outside(0, LAST_POSITION, ms))
-        return refused(6);
-    snprintf(label, sizeof label, "%02d:%02d:%02d.%03d", (int)(ms / 3600000), (int)(ms % 3600000 / 60000),
-             (int)(ms % 60000 / 1000), (int)(ms % 1000));
-    return put(label, out, length);
-}
-
-struct numbers plain_read_instant(const uint8_t *label, size_t length)
+int64_t plain_read_instant(const uint8_t *label, size_t length, int64_t *instant)
 {
     static const char shape[] = "0000-00-00T00:00:00.000Z"; /* 0 for a digit; a mark ends a field */
     int64_t fields[8] = {0, 0, 0, 0, 0, 0, 0, 0};
-    struct fields f;
     size_t i, field = 0;
     if (length != strlen(shape))
-        return refused(8);
+        return -8;
     for (i = 0; i < length; i++) {
         if (shape[i] == '0' ? outside('0', '9', label[i]) : label[i] != shape[i])
-            return refused(8);
+            return -8;
         if (shape[i] == '0')
             fields[field] = fields[field] * 10 + label[i] - '0';
         else
             field++;
     }
-    f.year = fields[0];
-    f.month = fields[1];
-    f.day = fields[2];
-    f.hour = fields[3];
-    f.minute = fields[4];
-    f.second = fields[5];
-    f.millisecond = fields[6];
-    return plain_join_instant(f);
+    return plain_join_instant(fields, instant);
+}
+
+int64_t plain_write_position(int64_t position, uint8_t *out, size_t length)
+{
+    char label[80];
+    if (outside(0, PAPER_LAST_POSITION, position))
+        return -6;
+    snprintf(label, sizeof label, "%02d:%02d:%02d.%03d", (int)(position / 3600000), (int)(position % 3600000 / 60000),
+             (int)(position % 60000 / 1000), (int)(position % 1000));
+    return put(label, out, length);
 }

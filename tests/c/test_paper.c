@@ -1,0 +1,152 @@
+/* Document 01's rows, "Numbers to try", and a week of dates by the names of their days. Compiled as C and as C++. */
+#include <string.h>
+
+#include "checks.h"
+#include "ovenquill.h"
+
+static void check_date(int64_t count, int64_t year, int64_t month, int64_t day)
+{
+    int64_t days = 0;
+    ovenquill_date date = {0, 0, 0};
+    same("days of a date", count, ovenquill_days_from_civil(year, month, day, &days), 0);
+    same("days of a date", count, days, count);
+    same("date of a count", count, ovenquill_civil_from_days(count, &date), 0);
+    same("year of a count", count, date.year, year);
+    same("month of a count", count, date.month, month);
+    same("day of a count", count, date.day, day);
+}
+
+static void check_weekday(int64_t year, int64_t month, int64_t day, int64_t weekday)
+{
+    int64_t days = 0;
+    same("days of a date", day, ovenquill_days_from_civil(year, month, day, &days), 0);
+    same("weekday of a date", days, ovenquill_weekday(days), weekday);
+}
+
+static void check_calendar(void)
+{
+    int64_t days = 0;
+    ovenquill_date date = {0, 0, 0};
+    check_date(-719528, 0, 1, 1);
+    check_date(-719469, 0, 2, 29);
+    check_date(-719468, 0, 3, 1);
+    check_date(-25509, 1900, 2, 28);
+    check_date(-25508, 1900, 3, 1);
+    check_date(-1, 1969, 12, 31);
+    check_date(11016, 2000, 2, 29);
+    check_date(47540, 2100, 2, 28);
+    check_date(47541, 2100, 3, 1);
+    check_date(2932896, 9999, 12, 31);
+    check_date(19487, 2023, 5, 10);
+    check_weekday(0, 1, 1, OVENQUILL_SATURDAY);
+    check_weekday(1969, 12, 31, OVENQUILL_WEDNESDAY);
+    check_weekday(1970, 1, 1, OVENQUILL_THURSDAY);
+    check_weekday(9999, 12, 31, OVENQUILL_FRIDAY);
+    check_weekday(2023, 5, 7, OVENQUILL_SUNDAY);
+    check_weekday(2023, 5, 8, OVENQUILL_MONDAY);
+    check_weekday(2023, 5, 9, OVENQUILL_TUESDAY);
+    check_weekday(2023, 5, 10, OVENQUILL_WEDNESDAY);
+    check_weekday(2023, 5, 11, OVENQUILL_THURSDAY);
+    check_weekday(2023, 5, 12, OVENQUILL_FRIDAY);
+    check_weekday(2023, 5, 13, OVENQUILL_SATURDAY);
+    same("year 0 is leap", 0, ovenquill_is_leap(0), 1);
+    same("day behind the last", 2932897, ovenquill_civil_from_days(2932897, &date), OVENQUILL_OUT_OF_RANGE);
+    same("1900-02-29", 1900, ovenquill_days_from_civil(1900, 2, 29, &days), OVENQUILL_DAY_OUT_OF_RANGE);
+    same("month 13 with day 99", 13, ovenquill_days_from_civil(2023, 13, 99, &days), OVENQUILL_MONTH_OUT_OF_RANGE);
+}
+
+/* An instant's day, its label, and the label read back. */
+static void check_instant(int64_t instant, int64_t day, const char *label)
+{
+    uint8_t out[OVENQUILL_INSTANT_LABEL_BYTES];
+    int64_t days = 0, again = 0;
+    same("day of an instant", instant, ovenquill_day_of_instant(instant, &days), 0);
+    same("day of an instant", instant, days, day);
+    same("writing an instant", instant, ovenquill_write_instant(instant, out, sizeof out), (int64_t)strlen(label));
+    same("label of an instant", instant, memcmp(out, label, strlen(label)), 0);
+    same("reading a label", instant, ovenquill_read_instant(out, sizeof out, &again), 0);
+    same("instant of a label", instant, again, instant);
+}
+
+static void check_instants(void)
+{
+    static const int64_t instants[] = {-1, 0, 86399999, 86400000};
+    static const int64_t right[] = {-1, 0, 0, 1};
+    static const char second_60[] = "2016-12-31T23:59:60.000Z";
+    int32_t days[COUNT(instants)];
+    int64_t instant = 0, place = 0;
+    size_t i;
+    check_instant(1683729000000, 19487, "2023-05-10T14:30:00.000Z");
+    check_instant(-1, -1, "1969-12-31T23:59:59.999Z");
+    check_instant(-86400000, -1, "1969-12-31T00:00:00.000Z");
+    check_instant(-86400001, -2, "1969-12-30T23:59:59.999Z");
+    same("second 60", 60, ovenquill_read_instant((const uint8_t *)second_60, strlen(second_60), &instant),
+         OVENQUILL_TIME_OUT_OF_RANGE);
+    same("index", 4, ovenquill_index_days(instants, COUNT(instants), days, COUNT(days), &place), 4);
+    for (i = 0; i < COUNT(instants); i++)
+        same("day of an index", instants[i], days[i], right[i]);
+}
+
+static void check_position(int64_t position, const char *label)
+{
+    uint8_t out[OVENQUILL_POSITION_LABEL_MAX_BYTES];
+    size_t length = strlen(label);
+    same("writing a position", position, ovenquill_write_position(position, out, length), (int64_t)length);
+    same("label of a position", position, memcmp(out, label, length), 0);
+    same("a byte too few", position, ovenquill_write_position(position, out, length - 1), OVENQUILL_BUFFER_TOO_SHORT);
+}
+
+static void check_positions(void)
+{
+    uint8_t out[OVENQUILL_POSITION_LABEL_MAX_BYTES];
+    check_position(0, "00:00:00.000");
+    check_position(359999999999, "99999:59:59.999");
+    check_position(4287767296, "1191:02:47.296");
+    same("position below 0", -1, ovenquill_write_position(-1, out, sizeof out), OVENQUILL_POSITION_OUT_OF_RANGE);
+    same("position behind the last", 360000000000, ovenquill_write_position(360000000000, out, sizeof out),
+         OVENQUILL_POSITION_OUT_OF_RANGE);
+}
+
+/* A row of the constants: the first difference below the greatest search end, or none, and then the claims beside it. */
+static void check_constants(int64_t a, int64_t b, int64_t d, int64_t m, int64_t c, int64_t k, int64_t t, int64_t first)
+{
+    const int64_t end = OVENQUILL_END_MAX;
+    int64_t least = -1;
+    same("first difference", first, ovenquill_first_difference(a, b, d, m, c, k, t, end), first);
+    same("none below 0", first, ovenquill_first_difference(a, b, d, m, c, k, t, 0), 0);
+    if (first == end) {
+        same("claim where there is none", first, ovenquill_check_bound(a, b, d, m, c, k, t, OVENQUILL_BOUND_MAX, &least),
+             OVENQUILL_NO_DIFFERENCE_UP_TO_BOUND);
+        return;
+    }
+    same("claim", first, ovenquill_check_bound(a, b, d, m, c, k, t, first, &least), 0);
+    if (first > 0)
+        same("claim below it", first, ovenquill_check_bound(a, b, d, m, c, k, t, first - 1, &least),
+             OVENQUILL_NO_DIFFERENCE_UP_TO_BOUND);
+    same("no least n", first, least, -1);
+    same("claim above it", first, ovenquill_check_bound(a, b, d, m, c, k, t, first + 1, &least),
+         OVENQUILL_DIFFERENCE_BELOW_BOUND);
+    same("least n", first, least, first);
+}
+
+static void check_all_constants(void)
+{
+    check_constants(1, 0, 10, 26, 0, 8, 0, 69);
+    check_constants(1, 0, 10, 26, 0, 8, 1, 709);
+    check_constants(1, 0, 10, 25, 0, 8, 0, 10);
+    check_constants(5, 461, 153, 2141, 197913, 16, 0, 734);
+    check_constants(1, 0, 1461, 2939745, 0, 32, 0, 28825529);
+    check_constants(1, 0, 1461, 376287347, 0, 39, 0, OVENQUILL_END_MAX);
+    check_constants(1, 0, 146097, 963315389, 0, 47, 0, OVENQUILL_END_MAX);
+    check_constants(1, 0, 4, 1, 0, 2, 0, OVENQUILL_END_MAX);
+    check_constants(1, 0, 1, 1, 1, 0, 0, 0);
+}
+
+int main(void)
+{
+    check_calendar();
+    check_instants();
+    check_positions();
+    check_all_constants();
+    return finish("document 01's numbers");
+}
