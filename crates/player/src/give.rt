@@ -9,13 +9,15 @@ use instant::IndexAnswer;
 use labels::WriteAnswer;
 use refusal::NumberAnswer;
 use refusal::Refusal;
+ghost use Prim.Native.Nat.{ℕ, _<_, _^_};
 ghost use mathlib.Core.Path.{_≡_};
 ghost use lib.IntN.{pos, negℤ};
 ghost use Rattle.refusal.specs.Numbers.{refusalNumber};
-ghost use Rattle.refusal.specs.Outcome.{numberOutcome, afterCall};
+ghost use Rattle.refusal.specs.Outcome.{value, refusedAt, numberOutcome, afterCall};
 ghost use Rattle.calendar.specs.Answers.{dateOutcome, flagOutcome};
 ghost use Rattle.instant.specs.Answers.{fieldsOutcome, indexOutcome};
 ghost use Rattle.labels.specs.Written.{writeOutcome};
+ghost use Rattle.constants.specs.Least.{at};
 ghost use Rattle.constants.specs.Answers.{searchOutcome, claimOutcome};
 ghost use Rattle.player.specs.Returned.{returned, returnedCount, returnedFlag, returnedDone, returnedFound, dateNumbers, fieldsNumbers, afterRefusal};
 
@@ -32,17 +34,13 @@ pub fn returned_flag(answer: FlagAnswer) -> i64
     ensures { λ r. ⌜ r ≡ returnedFlag (flagOutcome answer) ⌝ }
 {
     match answer {
-        FlagAnswer::Value(flag) => {
-            if flag {
-                return 1;
-            }
-            0
-        }
+        FlagAnswer::Value(flag) => flag as i64,
         FlagAnswer::Refused(why) => negated(why),
     }
 }
 
 pub fn returned_bytes(answer: WriteAnswer) -> i64
+    requires { ⌜ ((n : ℕ) → writeOutcome answer ≡ value n → n < 2 ^ 63) ⌝ }
     ensures { λ r. ⌜ r ≡ returnedCount (writeOutcome answer) ⌝ }
 {
     match answer {
@@ -52,6 +50,7 @@ pub fn returned_bytes(answer: WriteAnswer) -> i64
 }
 
 pub fn returned_found(answer: SearchAnswer, end: i64) -> i64
+    requires { ⌜ ((n : ℕ) → searchOutcome answer ≡ value (at n) → n < 2 ^ 63) ⌝ }
     ensures { λ r. ⌜ r ≡ returnedFound end (searchOutcome answer) ⌝ }
 {
     match answer {
@@ -80,9 +79,7 @@ pub fn date(answer: DateAnswer, place: &mut [i64; 3]) -> i64
 {
     match answer {
         DateAnswer::Value(d) => {
-            place[0] = d.year;
-            place[1] = d.month;
-            place[2] = d.day;
+            *place = [d.year, d.month, d.day];
             0
         }
         DateAnswer::Refused(why) => negated(why),
@@ -95,13 +92,15 @@ pub fn fields(answer: FieldsAnswer, place: &mut [i64; 7]) -> i64
 {
     match answer {
         FieldsAnswer::Value(f) => {
-            place[0] = f.year;
-            place[1] = f.month;
-            place[2] = f.day;
-            place[3] = f.hour;
-            place[4] = f.minute;
-            place[5] = f.second;
-            place[6] = f.millisecond;
+            *place = [
+                f.year,
+                f.month,
+                f.day,
+                f.hour,
+                f.minute,
+                f.second,
+                f.millisecond,
+            ];
             0
         }
         FieldsAnswer::Refused(why) => negated(why),
@@ -109,6 +108,8 @@ pub fn fields(answer: FieldsAnswer, place: &mut [i64; 7]) -> i64
 }
 
 pub fn index(answer: IndexAnswer, place: &mut i64) -> i64
+    requires { ⌜ ((n : ℕ) → indexOutcome answer ≡ value n → n < 2 ^ 63) ⌝ }
+    requires { ⌜ ((number at : ℕ) → indexOutcome answer ≡ refusedAt number at → at < 2 ^ 63) ⌝ }
     ensures answer { λ r. ⌜ r ≡ returnedCount (indexOutcome answer) ⌝ }
     ensures place { λ r. ⌜ now (place .exit) ≡ afterRefusal (indexOutcome answer) (now (place .entry)) ⌝ }
 {
@@ -123,6 +124,7 @@ pub fn index(answer: IndexAnswer, place: &mut i64) -> i64
 }
 
 pub fn claim(answer: ClaimAnswer, least: &mut i64) -> i64
+    requires { ⌜ ((number n : ℕ) → claimOutcome answer ≡ refusedAt number n → n < 2 ^ 63) ⌝ }
     ensures answer { λ r. ⌜ r ≡ returnedDone (claimOutcome answer) ⌝ }
     ensures least { λ r. ⌜ now (least .exit) ≡ afterRefusal (claimOutcome answer) (now (least .entry)) ⌝ }
 {
