@@ -153,3 +153,24 @@ pub(crate) fn placed<T>(mut place: T, call: impl FnOnce(&mut T) -> i64) -> Resul
         answer => Err(Refusal::of(answer)),
     }
 }
+
+#[cfg(test)]
+mod tests {
+    extern crate std;
+
+    use super::Refusal;
+    use std::string::ToString;
+
+    #[test]
+    fn every_answer_below_or_above_zero_is_some_refusal() {
+        for &refusal in Refusal::ALL {
+            assert_eq!(Refusal::of(-refusal.number()), refusal);
+        }
+        for answer in [i64::MIN, -1000, -13, 1, 4, 12, i64::MAX] {
+            let refusal = Refusal::of(answer);
+            assert!(!Refusal::ALL.contains(&refusal));
+            assert_eq!(refusal.number(), answer.wrapping_neg());
+        }
+        assert_eq!(Refusal::of(-13).to_string(), "refusal 13, which this version does not know");
+    }
+}
