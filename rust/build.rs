@@ -1,4 +1,4 @@
-// Links the archives that `make` writes. OVENQUILL_LIB names another folder that holds them. OVENQUILL_CHRONO names the
+// Links the archive that `make` writes. OVENQUILL_LIB names another folder that holds it. OVENQUILL_CHRONO names the
 // folder of libovenquill_chrono.a, which benches/chrono.cpp says how to make: the benchmarks then have its lines too.
 use std::env;
 use std::path::PathBuf;
@@ -11,10 +11,6 @@ fn main() {
     println!("cargo:rustc-link-search=native={}", folder.display());
     println!("cargo:rustc-link-lib=static=ovenquill");
     println!("cargo:rerun-if-changed={}", folder.join("libovenquill.a").display());
-    if env::var_os("CARGO_FEATURE_HARNESS").is_some() {
-        println!("cargo:rustc-link-lib=static=ovenquill_harness");
-        println!("cargo:rerun-if-changed={}", folder.join("libovenquill_harness.a").display());
-    }
 
     println!("cargo:rustc-check-cfg=cfg(chrono)");
     println!("cargo:rerun-if-env-changed=OVENQUILL_CHRONO");

@@ -1,39 +1,26 @@
-//! The library against its rivals: one line for each pair, ours / rival.
+//! The library against its rivals: one line for each pair, ours / rival, measured as benches/measure says.
 //!
-//! Both of a pair have the same signature, get the same inputs and buffers in the same run and answer alike, which is
-//! checked first. In each of many rounds they take turns on every part of the inputs, called through a pointer, so that
-//! neither is inlined. The time of a part is its median over the rounds, and the time of all the inputs is the sum over the
-//! parts: a part is short, so that what else the machine does meanwhile falls on few of them. A line has the ratio of these
-//! times, the spread of the ratios of the single rounds, and the best time of each for one call.
-//! The rivals are plain Rust (benches/rivals) and, where OVENQUILL_CHRONO is set, libstdc++'s chrono (benches/chrono.cpp).
+//! Ours are the shipped C calls. The rivals are plain Rust (benches/rivals) and, where OVENQUILL_CHRONO is set, libstdc++'s
+//! chrono (benches/chrono.cpp), with the same signatures, answers and refusals.
 
+mod measure;
 #[path = "../tests/support/random.rs"]
 #[allow(dead_code)]
 mod random;
 mod rivals;
 
-use ovenquill::harness::raw;
-use ovenquill::harness::{self, Constants};
+use measure::call::{Eight, EightTo, FourTo, Index, One, OneTo, Reader, SevenTo, Three, ThreeTo, Two, Writer};
+use measure::{best_times, line, percentile, shown, Inputs, PARTS, ROUNDS};
+use ovenquill::{
+    raw, Constants, Date, Fields, CLAIM_BOUNDS, DAYS, INSTANTS, INSTANT_LABEL_BYTES, POSITIONS, SEARCH_ENDS, YEARS,
+};
 use random::Random;
-use std::cell::RefCell;
-use std::hint::black_box;
-use std::time::Instant;
+#[cfg(chrono)]
+use rivals::chrono;
+use rivals::{calendar, constants, instants, labels};
 
-const ROUNDS: usize = 31;
+/// The inputs of most lines.
 const INPUTS: usize = 131072;
-/// The parts that the inputs of a line are done in.
-const PARTS: usize = 64;
-const LAST_END: i64 = 4294967295;
-
-type OneNumber = unsafe extern "C" fn(i64, *mut i64, usize);
-type ThreeNumbers = unsafe extern "C" fn(i64, i64, i64, *mut i64, usize);
-type Writer = unsafe extern "C" fn(i64, *mut u8, usize, *mut i64, usize);
-type Reader = unsafe extern "C" fn(*const u8, usize, *mut i64, usize);
-type Index = unsafe extern "C" fn(*const i64, usize, *mut i32, usize, *mut i64, usize);
-type Checker = unsafe extern "C" fn(i64, i64, i64, i64, i64, i64, i64, i64, *mut i64, usize);
-
-/// One way to do the work of a line: calls on the inputs of a part, and answers a sum over what was answered.
-type Work<'a> = Box<dyn FnMut(usize) -> i64 + 'a>;
 
 fn main() {
     println!("{ROUNDS} rounds, ours and the rival in turn; ratio = median time of ours / median time of the rival");
@@ -41,6 +28,7 @@ fn main() {
     println!("| call | rival | ratio | rounds, least to largest | rounds, middle half | best of ours | of the rival |");
     println!("|---|---|---|---|---|---|---|");
     calendar_lines();
+    instant_lines();
     label_lines();
     index_lines();
     constants_lines();
@@ -48,436 +36,379 @@ fn main() {
     constants_times();
 }
 
-// Measuring
+#[cfg(chrono)]
+const CHRONO: &str = "libstdc++ chrono";
+const RUST: &str = "plain Rust";
 
-/// The seconds that each part took in each round.
-type Times = Vec<[f64; ROUNDS]>;
-
-/// The number that so many of a hundred are below.
-fn percentile(times: &[f64], percent: usize) -> f64 {
-    let mut sorted = times.to_vec();
-    sorted.sort_by(f64::total_cmp);
-    sorted[(sorted.len() - 1) * percent / 100]
-}
-
-/// The sum over the parts of such a percentile over the rounds.
-fn total(times: &Times, percent: usize) -> f64 {
-    times.iter().map(|rounds| percentile(rounds, percent)).sum()
-}
-
-/// The sum over the parts in one round. A part that was interrupted counts at most twice its median.
-fn in_round(times: &Times, round: usize) -> f64 {
-    times.iter().map(|rounds| rounds[round].min(2.0 * percentile(rounds, 50))).sum()
-}
-
-/// A time for one call, in the unit that suits it.
-fn shown(seconds: f64) -> String {
-    let ns = seconds * 1e9;
-    if ns < 1000.0 {
-        format!("{ns:.2} ns")
-    } else {
-        format!("{:.2} µs", ns / 1000.0)
-    }
-}
-
-/// A ratio with three digits behind the point, or more where it is small.
-fn shown_ratio(ratio: f64) -> String {
-    if ratio < 0.01 {
-        format!("{ratio:.5}")
-    } else {
-        format!("{ratio:.3}")
-    }
-}
-
-/// Measures both and prints the line.
-fn line<'a>(call: &str, rival_name: &str, inputs: usize, parts: usize, mut ours: Work<'a>, mut rival: Work<'a>) {
-    for part in 0..parts {
-        assert_eq!(ours(part), rival(part), "{call}: ours and {rival_name} answer differently");
-    }
-    let mut our_times: Times = vec![[0.0; ROUNDS]; parts];
-    let mut rival_times = our_times.clone();
-    for round in 0..ROUNDS {
-        for part in 0..parts {
-            for turn in 0..2 {
-                let (work, times) = if (round + part) % 2 == turn {
-                    (&mut ours, &mut our_times)
-                } else {
-                    (&mut rival, &mut rival_times)
-                };
-                let start = Instant::now();
-                black_box(work(part));
-                times[part][round] = start.elapsed().as_secs_f64();
-            }
-        }
-    }
-    let ratios: Vec<f64> =
-        (0..ROUNDS).map(|round| in_round(&our_times, round) / in_round(&rival_times, round)).collect();
-    println!(
-        "| {call} | {rival_name} | {} | {} to {} | {} to {} | {} | {} |",
-        shown_ratio(total(&our_times, 50) / total(&rival_times, 50)),
-        shown_ratio(percentile(&ratios, 0)),
-        shown_ratio(percentile(&ratios, 100)),
-        shown_ratio(percentile(&ratios, 25)),
-        shown_ratio(percentile(&ratios, 75)),
-        shown(total(&our_times, 0) / inputs as f64),
-        shown(total(&rival_times, 0) / inputs as f64),
-    );
-}
-
-/// One part of the inputs.
-fn part_of<T>(inputs: &[T], part: usize) -> &[T] {
-    let length = inputs.len() / PARTS;
-    &inputs[part * length..(part + 1) * length]
-}
-
-/// A sum that differs where an answer differs.
-fn mixed(sum: i64, answer: &[i64]) -> i64 {
-    answer.iter().fold(sum, |sum, &number| sum.wrapping_mul(31).wrapping_add(number))
+/// As many numbers from a range as a line has inputs.
+fn numbers(random: &mut Random, range: std::ops::RangeInclusive<i64>) -> Vec<i64> {
+    (0..INPUTS).map(|_| random.within(*range.start(), *range.end())).collect()
 }
 
 // The calendar
 
-#[cfg(chrono)]
-extern "C" {
-    fn chrono_civil_from_days(days: i64, answer: *mut i64, length: usize);
-    fn chrono_days_from_civil(year: i64, month: i64, day: i64, answer: *mut i64, length: usize);
-}
-
-const COUNT_RIVALS: &[(&str, OneNumber)] = &[
-    ("algorithm 3 in Rust", rivals::civil_from_days),
-    #[cfg(chrono)]
-    ("libstdc++ chrono", chrono_civil_from_days),
-];
-
-const DATE_RIVALS: &[(&str, ThreeNumbers)] = &[
-    ("algorithm 4 in Rust", rivals::days_from_civil),
-    #[cfg(chrono)]
-    ("libstdc++ chrono", chrono_days_from_civil),
-];
-
-fn on_counts(call: OneNumber, counts: &[i64]) -> Work<'_> {
-    let call = black_box(call);
-    Box::new(move |part| {
-        let mut answer = [0; 4];
-        part_of(counts, part).iter().fold(0, |sum, &days| {
-            // SAFETY: the pointer and the length are those of the answer.
-            unsafe { call(days, answer.as_mut_ptr(), answer.len()) };
-            mixed(sum, &answer)
-        })
-    })
-}
-
-fn on_dates(call: ThreeNumbers, dates: &[[i64; 3]]) -> Work<'_> {
-    let call = black_box(call);
-    Box::new(move |part| {
-        let mut answer = [0; 3];
-        part_of(dates, part).iter().fold(0, |sum, &[year, month, day]| {
-            // SAFETY: the pointer and the length are those of the answer.
-            unsafe { call(year, month, day, answer.as_mut_ptr(), answer.len()) };
-            mixed(sum, &answer)
-        })
-    })
-}
-
 fn calendar_lines() {
     let mut random = Random::new(101);
-    let counts: Vec<i64> = (0..INPUTS).map(|_| random.within(-719528, 2932896)).collect();
+    let counts: Vec<[i64; 1]> = numbers(&mut random, DAYS).into_iter().map(|days| [days]).collect();
     let dates: Vec<[i64; 3]> = counts
         .iter()
-        .map(|&days| {
-            let date = harness::civil_from_days(days).value();
-            [date.year, date.month, date.day]
+        .map(|&[days]| {
+            let Date { year, month, day } = ovenquill::civil_from_days(days).expect("a count in the range");
+            [year, month, day]
         })
         .collect();
     // One in eight is refused, at random.
-    let mixed_counts: Vec<i64> = counts
+    let past_the_range = DAYS.end() - DAYS.start() + 1;
+    let past_the_years = YEARS.end() - YEARS.start() + 1;
+    let mixed_counts: Vec<[i64; 1]> = counts
         .iter()
-        .map(|&days| if random.within(0, 7) == 0 { random.choose(&[days - 4000000, days + 4000000]) } else { days })
+        .map(|&[days]| match random.within(0, 7) {
+            0 => [random.choose(&[days - past_the_range, days + past_the_range])],
+            _ => [days],
+        })
         .collect();
     let mixed_dates: Vec<[i64; 3]> = dates
         .iter()
         .map(|&[year, month, day]| match random.within(0, 23) {
-            0 => [year + 10000, month, day],
+            0 => [year + past_the_years, month, day],
             1 => [year, month + 12, day],
             2 => [year, month, day + 31],
             _ => [year, month, day],
         })
         .collect();
+    // From each date to another one of the range.
+    let shifts: Vec<[i64; 4]> = counts
+        .iter()
+        .zip(&dates)
+        .map(|(&[days], &[year, month, day])| [year, month, day, random.within(*DAYS.start(), *DAYS.end()) - days])
+        .collect();
+    let years: Vec<[i64; 1]> = dates.iter().map(|&[year, ..]| [year]).collect();
+    let months: Vec<[i64; 2]> = dates.iter().map(|&[year, month, _]| [year, month]).collect();
 
-    for (inputs, what) in [(&counts, "days to date"), (&mixed_counts, "days to date, 1 in 8 refused")] {
-        for &(name, rival) in COUNT_RIVALS {
-            line(what, name, INPUTS, PARTS, on_counts(raw::harness_civil_from_days, inputs), on_counts(rival, inputs));
-        }
+    for (what, inputs) in [("days to date", &counts), ("days to date, 1 in 8 refused", &mixed_counts)] {
+        line::<OneTo<Date>>(
+            what,
+            &Inputs::of(inputs),
+            raw::ovenquill_civil_from_days,
+            &[
+                ("algorithm 3 in Rust", calendar::civil_from_days),
+                #[cfg(chrono)]
+                (CHRONO, chrono::chrono_civil_from_days),
+            ],
+        );
     }
-    for (inputs, what) in [(&dates, "date to days"), (&mixed_dates, "date to days, 1 in 8 refused")] {
-        for &(name, rival) in DATE_RIVALS {
-            line(what, name, INPUTS, PARTS, on_dates(raw::harness_days_from_civil, inputs), on_dates(rival, inputs));
-        }
+    for (what, inputs) in [("date to days", &dates), ("date to days, 1 in 8 refused", &mixed_dates)] {
+        line::<ThreeTo<i64>>(
+            what,
+            &Inputs::of(inputs),
+            raw::ovenquill_days_from_civil,
+            &[
+                ("algorithm 4 in Rust", calendar::days_from_civil),
+                #[cfg(chrono)]
+                (CHRONO, chrono::chrono_days_from_civil),
+            ],
+        );
     }
+    line::<FourTo<Date>>(
+        "shift a date",
+        &Inputs::of(&shifts),
+        raw::ovenquill_add_days,
+        &[
+            ("algorithms 4 and 3 in Rust", calendar::add_days),
+            #[cfg(chrono)]
+            (CHRONO, chrono::chrono_add_days),
+        ],
+    );
+    line::<One>(
+        "weekday",
+        &Inputs::of(&counts),
+        raw::ovenquill_weekday,
+        &[
+            (RUST, calendar::weekday),
+            #[cfg(chrono)]
+            (CHRONO, chrono::chrono_weekday),
+        ],
+    );
+    line::<One>(
+        "leap year",
+        &Inputs::of(&years),
+        raw::ovenquill_is_leap,
+        &[
+            (RUST, calendar::is_leap),
+            #[cfg(chrono)]
+            (CHRONO, chrono::chrono_is_leap),
+        ],
+    );
+    line::<Two>(
+        "month length",
+        &Inputs::of(&months),
+        raw::ovenquill_last_day_of_month,
+        &[
+            (RUST, calendar::last_day_of_month),
+            #[cfg(chrono)]
+            (CHRONO, chrono::chrono_last_day_of_month),
+        ],
+    );
+    line::<Three>(
+        "day of the year",
+        &Inputs::of(&dates),
+        raw::ovenquill_day_of_year,
+        &[
+            (RUST, calendar::day_of_year),
+            #[cfg(chrono)]
+            (CHRONO, chrono::chrono_day_of_year),
+        ],
+    );
+}
+
+// Instants
+
+fn instant_lines() {
+    let mut random = Random::new(106);
+    let list: Vec<[i64; 1]> = numbers(&mut random, INSTANTS).into_iter().map(|instant| [instant]).collect();
+    let fields: Vec<[i64; 7]> = list
+        .iter()
+        .map(|&[instant]| {
+            let f = ovenquill::split_instant(instant).expect("an instant in the range");
+            [f.year, f.month, f.day, f.hour, f.minute, f.second, f.millisecond]
+        })
+        .collect();
+    line::<OneTo<i64>>(
+        "day of an instant",
+        &Inputs::of(&list),
+        raw::ovenquill_day_of_instant,
+        &[
+            ("`div_euclid` in Rust", instants::day_of_instant),
+            #[cfg(chrono)]
+            (CHRONO, chrono::chrono_day_of_instant),
+        ],
+    );
+    line::<OneTo<Fields>>(
+        "split an instant",
+        &Inputs::of(&list),
+        raw::ovenquill_split_instant,
+        &[
+            (RUST, instants::split_instant),
+            #[cfg(chrono)]
+            (CHRONO, chrono::chrono_split_instant),
+        ],
+    );
+    line::<SevenTo<i64>>(
+        "join an instant",
+        &Inputs::of(&fields),
+        raw::ovenquill_join_instant,
+        &[
+            (RUST, instants::join_instant),
+            #[cfg(chrono)]
+            (CHRONO, chrono::chrono_join_instant),
+        ],
+    );
 }
 
 // Labels
 
-/// Buffers for labels, none across two cache lines.
-#[repr(align(64))]
-struct Buffers([[u8; 32]; 64]);
-
-/// Writes one label behind the other, so that no store waits for the last one.
-fn on_buffers<'a>(call: Writer, instants: &'a [i64], buffers: &'a RefCell<Buffers>) -> Work<'a> {
-    let call = black_box(call);
-    Box::new(move |part| {
-        let buffers = &mut buffers.borrow_mut().0;
-        let mut answer = [0; 3];
-        part_of(instants, part).iter().enumerate().fold(0, |sum, (place, &ms)| {
-            let out = &mut buffers[place % buffers.len()];
-            // SAFETY: the pointers and the lengths are those of the buffer and the answer.
-            unsafe { call(ms, out.as_mut_ptr(), out.len(), answer.as_mut_ptr(), answer.len()) };
-            mixed(sum, &answer)
-        })
-    })
-}
-
-fn on_labels(call: Reader, labels: &[[u8; 24]]) -> Work<'_> {
-    let call = black_box(call);
-    Box::new(move |part| {
-        let mut answer = [0; 3];
-        part_of(labels, part).iter().fold(0, |sum, label| {
-            // SAFETY: the pointers and the lengths are those of the label and the answer.
-            unsafe { call(label.as_ptr(), label.len(), answer.as_mut_ptr(), answer.len()) };
-            mixed(sum, &answer)
-        })
-    })
-}
-
-/// Both writers write the same bytes.
-fn same_bytes(ours: Writer, rival: Writer, instants: &[i64]) {
-    for &ms in instants {
-        let (mut our_bytes, mut rival_bytes, mut answer) = ([b'?'; 32], [b'?'; 32], [0; 3]);
-        // SAFETY: the pointers and the lengths are those of the buffers and the answer.
-        unsafe {
-            ours(ms, our_bytes.as_mut_ptr(), 32, answer.as_mut_ptr(), 3);
-            rival(ms, rival_bytes.as_mut_ptr(), 32, answer.as_mut_ptr(), 3);
-        }
-        assert_eq!(our_bytes, rival_bytes, "{ms}");
-    }
-}
-
 fn label_lines() {
     let mut random = Random::new(102);
-    let instants: Vec<i64> = (0..INPUTS).map(|_| random.within(-62167219200000, 253402300799999)).collect();
-    let labels: Vec<[u8; 24]> = instants
+    let list = numbers(&mut random, INSTANTS);
+    let right: Vec<[u8; INSTANT_LABEL_BYTES]> = list
         .iter()
-        .map(|&ms| {
-            let mut label = [0; 24];
-            harness::write_instant(ms, &mut label);
+        .map(|&instant| {
+            let mut label = [0; INSTANT_LABEL_BYTES];
+            ovenquill::write_instant(instant, &mut label).expect("an instant in the range");
             label
         })
         .collect();
     // One in eight has a byte that is wrong, or a field that is.
-    let mixed_labels: Vec<[u8; 24]> = labels
-        .iter()
-        .map(|&label| {
-            let mut label = label;
-            if random.within(0, 7) == 0 {
-                label[random.within(0, 23) as usize] = random.choose(b"?9");
-            }
-            label
-        })
-        .collect();
-    let short: Vec<i64> = (0..INPUTS).map(|_| random.within(0, 359999999)).collect();
-    let long: Vec<i64> = (0..INPUTS).map(|_| random.of_any_size(0, 359999999999)).collect();
-
-    let buffers = RefCell::new(Buffers([[b'?'; 32]; 64]));
-    let writers: [(&str, &[i64], Writer, [Writer; 2]); 3] = [
-        (
-            "write an instant label",
-            &instants,
-            raw::harness_write_instant,
-            [rivals::write_instant::<true>, rivals::write_instant::<false>],
-        ),
-        (
-            "write a position label, below 100 hours",
-            &short,
-            raw::harness_write_position,
-            [rivals::write_position::<true>, rivals::write_position::<false>],
-        ),
-        (
-            "write a position label, of any size",
-            &long,
-            raw::harness_write_position,
-            [rivals::write_position::<true>, rivals::write_position::<false>],
-        ),
-    ];
-    for (what, inputs, ours, rivals) in writers {
-        for (name, rival) in ["Rust, table of two digits", "Rust, digit by digit"].into_iter().zip(rivals) {
-            same_bytes(ours, rival, inputs);
-            let (ours, rival) = (on_buffers(ours, inputs, &buffers), on_buffers(rival, inputs, &buffers));
-            line(what, name, INPUTS, PARTS, ours, rival);
+    let mut damaged = right.clone();
+    for label in &mut damaged {
+        if random.within(0, 7) == 0 {
+            let place = random.within(0, label.len() as i64 - 1) as usize;
+            label[place] = random.choose(b"?9");
         }
     }
-    for (inputs, what) in [(&labels, "read an instant label"), (&mixed_labels, "read a label, 1 in 8 damaged")] {
-        let ours = on_labels(raw::harness_read_instant, inputs);
-        line(what, "hand-written Rust", INPUTS, PARTS, ours, on_labels(rivals::read_instant, inputs));
+    let short = numbers(&mut random, *POSITIONS.start()..=100 * labels::POSITION_HOUR - 1);
+    let long: Vec<i64> = (0..INPUTS).map(|_| random.of_any_size(*POSITIONS.start(), *POSITIONS.end())).collect();
+
+    let (table, digits) = ("Rust, table of two digits", "Rust, digit by digit");
+    line::<Writer>(
+        "write an instant label",
+        &Inputs::of(&list),
+        raw::ovenquill_write_instant,
+        &[(table, labels::write_instant::<true>), (digits, labels::write_instant::<false>)],
+    );
+    for (what, inputs) in
+        [("write a position label, below 100 hours", &short), ("write a position label, of any size", &long)]
+    {
+        line::<Writer>(
+            what,
+            &Inputs::of(inputs),
+            raw::ovenquill_write_position,
+            &[(table, labels::write_position::<true>), (digits, labels::write_position::<false>)],
+        );
+    }
+    for (what, inputs) in [("read an instant label", &right), ("read a label, 1 in 8 damaged", &damaged)] {
+        line::<Reader>(
+            what,
+            &Inputs::of(inputs),
+            raw::ovenquill_read_instant,
+            &[("hand-written Rust", labels::read_instant)],
+        );
     }
 }
 
 // The recording index
 
-/// Indexes the lists of a part, one after the other, each to the same days. Where a part is all the instants, every part
-/// has the same ones.
-fn on_lists<'a>(call: Index, instants: &'a [i64], part_length: usize, days: &'a RefCell<Vec<i32>>) -> Work<'a> {
-    let call = black_box(call);
-    Box::new(move |part| {
-        let first = part * part_length % instants.len();
-        let days = &mut *days.borrow_mut();
-        let mut answer = [0; 3];
-        instants[first..first + part_length].chunks(days.len()).fold(0, |sum, list| {
-            // SAFETY: the pointers and the lengths are those of the lists and the answer.
-            unsafe {
-                call(list.as_ptr(), list.len(), days.as_mut_ptr(), days.len(), answer.as_mut_ptr(), answer.len())
-            };
-            mixed(sum ^ i64::from(days[days.len() / 2]), &answer)
-        })
-    })
-}
-
 fn index_lines() {
     const MILLION: usize = 1_000_000;
     let mut random = Random::new(103);
-    let instants: Vec<i64> = (0..MILLION).map(|_| random.within(-62167219200000, 253402300799999)).collect();
-    for (list, parts, part_length, length) in
-        [(&instants[..], 5, MILLION, MILLION), (&instants[..INPUTS], PARTS, INPUTS / PARTS, 1024)]
-    {
-        let days = RefCell::new(vec![0; length]);
-        let ours = on_lists(raw::harness_index_days, list, part_length, &days);
-        let rival = on_lists(rivals::index_days, list, part_length, &days);
-        let what = format!("index of {length}, for each instant");
-        line(&what, "`div_euclid` loop", parts * part_length, parts, ours, rival);
+    let long: Vec<i64> = (0..MILLION).map(|_| random.within(*INSTANTS.start(), *INSTANTS.end())).collect();
+    let short: Vec<Vec<i64>> = long[..INPUTS].chunks(1024).map(<[i64]>::to_vec).collect();
+    // Every part of the long one is the same list.
+    for (list, parts) in [(vec![long; 5], 5), (short, PARTS)] {
+        let length = list[0].len();
+        line::<Index>(
+            &format!("index of {length}, for each instant"),
+            &Inputs { list: &list, parts, units: length },
+            raw::ovenquill_index_days,
+            &[("`div_euclid` loop", instants::index_days)],
+        );
     }
 }
 
 // Constants on trial
 
-/// Constants and the search end or claimed bound.
-type Set = (Constants, i64);
+/// The numbers of a call: constants, and the search end or claimed bound.
+type Set = [i64; 8];
 
-fn on_sets<'a>(call: Checker, sets: &'a [Set]) -> Work<'a> {
-    let call = black_box(call);
-    Box::new(move |part| {
-        let mut answer = [0; 3];
-        part_of(sets, part).iter().fold(0, |sum, &(q, end)| {
-            // SAFETY: the pointer and the length are those of the answer.
-            unsafe { call(q.a, q.b, q.d, q.m, q.c, q.k, q.t, end, answer.as_mut_ptr(), answer.len()) };
-            mixed(sum, &answer)
-        })
-    })
+const LEAST: Constants = Constants::LEAST;
+const LARGEST: Constants = Constants::LARGEST;
+const LAST_END: i64 = *SEARCH_ENDS.end();
+
+fn set(q: Constants, end: i64) -> Set {
+    [q.a, q.b, q.d, q.m, q.c, q.k, q.t, end]
 }
 
-/// A divisor up to `d_last` and the nearest multiplier that fits, rounded up or down.
+/// The exact fraction's multiplier: often a small one.
+fn some_a(random: &mut Random) -> i64 {
+    let any = random.within(LEAST.a, LARGEST.a);
+    random.choose(&[1, 1, 4, 5, any])
+}
+
+/// The largest shift for which the largest of these numerators, divided by d, is below the largest multiplier.
+fn shift_for(numerator: i64, d: i64) -> i64 {
+    let fits = |&k: &i64| (numerator << k) / d < LARGEST.m;
+    (LEAST.k..=LARGEST.k).rev().find(fits).unwrap_or(LEAST.k)
+}
+
+/// A divisor up to `d_last` and the nearest multiplier that fits, rounded up or down. In two of three sets the offset c is
+/// fitted to b, which is 0 in half of them; in the third it is 0.
 fn near_exact(random: &mut Random, d_last: i64) -> Constants {
-    let d = random.within(1, d_last);
-    let any = random.within(1, 1023);
-    let a = random.choose(&[1, 1, 4, 5, any]);
-    let mut k = 47;
-    while (a << k) / d >= LAST_END {
-        k -= 1;
-    }
+    let d = random.within(LEAST.d, d_last);
+    let a = some_a(random);
+    let k = shift_for(a, d);
     let m = (a << k) / d + random.within(0, 1);
-    let b = random.within(0, 1) * random.within(0, 1023);
-    let c = random.choose(&[0, ((b << k) / d).min(LAST_END), (((b << k) + (1 << k) - 1) / d).min(LAST_END)]);
-    Constants { a, b, d, m, c, k, t: random.choose(&[0, 0, 1, 255]) }
+    let b = random.within(0, 1) * random.within(LEAST.b, LARGEST.b);
+    let c = random.choose(&[0, (b << k) / d, ((b << k) + (1 << k) - 1) / d]).min(LARGEST.c);
+    Constants { a, b, d, m, c, k, t: random.choose(&[0, 0, 1, LARGEST.t]) }
+}
+
+/// The same with b from 1 and, in every set, the nearest offset too, rounded down or up, or as far up as leaves the quotient
+/// at 0 right. The shift is one that both fit.
+fn near_exact_with_fitted_offset(random: &mut Random, d_last: i64) -> Constants {
+    let d = random.within(LEAST.d, d_last);
+    let (a, b) = (some_a(random), random.within(1, LARGEST.b));
+    let k = shift_for(a.max(b + 1), d);
+    let m = (a << k) / d + random.within(0, 1);
+    let c = random.choose(&[(b << k) / d, (b << k) / d + 1, ((b << k) + (1 << k) - 1) / d]);
+    Constants { a, b, d, m, c, k, t: random.choose(&[0, 0, 1, LARGEST.t]) }
 }
 
 fn any_allowed(random: &mut Random) -> Constants {
     Constants {
-        a: random.within(1, 1023),
-        b: random.within(0, 1023),
-        d: random.within(1, 1048575),
-        m: random.of_any_size(0, LAST_END),
-        c: random.of_any_size(0, LAST_END),
-        k: random.within(0, 47),
-        t: random.within(0, 255),
+        a: random.within(LEAST.a, LARGEST.a),
+        b: random.within(LEAST.b, LARGEST.b),
+        d: random.within(LEAST.d, LARGEST.d),
+        m: random.of_any_size(LEAST.m, LARGEST.m),
+        c: random.of_any_size(LEAST.c, LARGEST.c),
+        k: random.within(LEAST.k, LARGEST.k),
+        t: random.within(LEAST.t, LARGEST.t),
     }
 }
 
 /// Every combination of the constants' limits.
 fn corners() -> Vec<Constants> {
-    let limits = [(1, 1023), (0, 1023), (1, 1048575), (0, LAST_END), (0, LAST_END), (0, 47), (0, 255)];
-    (0..128)
-        .map(|corner| {
-            let mut sides = limits.iter().enumerate().map(
-                |(place, &(first, last))| {
-                    if corner >> place & 1 == 0 {
-                        first
-                    } else {
-                        last
-                    }
-                },
-            );
-            let mut next = || sides.next().expect("seven limits");
-            Constants { a: next(), b: next(), d: next(), m: next(), c: next(), k: next(), t: next() }
+    let side = |corner: usize, place: usize, least, largest| if corner >> place & 1 == 0 { least } else { largest };
+    (0..1 << 7)
+        .map(|corner| Constants {
+            a: side(corner, 0, LEAST.a, LARGEST.a),
+            b: side(corner, 1, LEAST.b, LARGEST.b),
+            d: side(corner, 2, LEAST.d, LARGEST.d),
+            m: side(corner, 3, LEAST.m, LARGEST.m),
+            c: side(corner, 4, LEAST.c, LARGEST.c),
+            k: side(corner, 5, LEAST.k, LARGEST.k),
+            t: side(corner, 6, LEAST.t, LARGEST.t),
         })
         .collect()
 }
 
+/// Searches to the last end.
+fn searches_of(constants: &[Constants]) -> Vec<Set> {
+    constants.iter().map(|&q| set(q, LAST_END)).collect()
+}
+
 /// Right claims where there is a difference, and else a bound with none at or below it.
-fn claims_of(searches: &[Set]) -> Vec<Set> {
-    let bound = |(q, end)| harness::first_difference(q, end).value().unwrap_or(LAST_END - 1);
-    searches.iter().map(|&search| (search.0, bound(search))).collect()
+fn claims_of(constants: &[Constants]) -> Vec<Set> {
+    let least = |q| ovenquill::first_difference(q, LAST_END).expect("allowed constants");
+    constants.iter().map(|&q| set(q, least(q).unwrap_or(*CLAIM_BOUNDS.end()))).collect()
 }
 
 /// The walk takes up to milliseconds, so the lines with large divisors have fewer sets.
 fn constants_lines() {
+    const WALK: &str = "walk of the residues in Rust";
     let mut random = Random::new(104);
-    for (d_last, count) in [(16, INPUTS), (256, INPUTS), (4096, 4096), (1048575, 64)] {
-        let searches: Vec<Set> = (0..count).map(|_| (near_exact(&mut random, d_last), LAST_END)).collect();
-        let claims = claims_of(&searches);
-        let walk = "walk of the residues in Rust";
-        let (ours, rival) = (raw::harness_first_difference as Checker, rivals::first_difference as Checker);
-        let what = format!("search, d up to {d_last}");
-        line(&what, walk, count, PARTS, on_sets(ours, &searches), on_sets(rival, &searches));
-        let (ours, rival) = (raw::harness_check_bound as Checker, rivals::check_bound as Checker);
-        let what = format!("claim, d up to {d_last}");
-        line(&what, walk, count, PARTS, on_sets(ours, &claims), on_sets(rival, &claims));
+    for (d_last, count) in [(16, INPUTS), (256, INPUTS), (4096, 4096), (LARGEST.d, 64)] {
+        let sets: Vec<Constants> = (0..count).map(|_| near_exact(&mut random, d_last)).collect();
+        line::<Eight>(
+            &format!("search, d up to {d_last}"),
+            &Inputs::of(&searches_of(&sets)),
+            raw::ovenquill_first_difference,
+            &[(WALK, constants::first_difference)],
+        );
+        line::<EightTo<i64>>(
+            &format!("claim, d up to {d_last}"),
+            &Inputs::of(&claims_of(&sets)),
+            raw::ovenquill_check_bound,
+            &[(WALK, constants::check_bound)],
+        );
     }
-    let any: Vec<Set> = (0..256).map(|_| (any_allowed(&mut random), LAST_END)).collect();
-    let (ours, rival) = (raw::harness_first_difference as Checker, rivals::first_difference as Checker);
-    let walk = "walk of the residues in Rust";
-    line("search, any allowed constants", walk, any.len(), PARTS, on_sets(ours, &any), on_sets(rival, &any));
-}
-
-/// The seconds that each call takes: the best of five passes over all the sets, so that a slow one is the call's and not
-/// the machine's.
-fn best_times(call: Checker, sets: &[Set]) -> Vec<f64> {
-    let call = black_box(call);
-    let mut best = vec![f64::INFINITY; sets.len()];
-    for _ in 0..5 {
-        for (best, &(q, end)) in best.iter_mut().zip(sets) {
-            let mut answer = [0; 3];
-            let start = Instant::now();
-            // SAFETY: the pointer and the length are those of the answer.
-            unsafe { call(q.a, q.b, q.d, q.m, q.c, q.k, q.t, end, answer.as_mut_ptr(), answer.len()) };
-            black_box(&answer);
-            *best = best.min(start.elapsed().as_secs_f64());
-        }
-    }
-    best
+    let any: Vec<Constants> = (0..256).map(|_| any_allowed(&mut random)).collect();
+    line::<Eight>(
+        "search, any allowed constants",
+        &Inputs::of(&searches_of(&any)),
+        raw::ovenquill_first_difference,
+        &[(WALK, constants::first_difference)],
+    );
 }
 
 /// Prints the mean and the worst time of a search to the last end, and of a claim of what it found.
 fn constants_times() {
+    const SETS: usize = 100_000;
     let mut random = Random::new(105);
-    let kinds: [(&str, Vec<Constants>); 3] = [
-        ("random constants", (0..100_000).map(|_| any_allowed(&mut random)).collect()),
-        ("nearest multipliers, d up to 1048575", (0..100_000).map(|_| near_exact(&mut random, 1048575)).collect()),
+    let nearest = format!("nearest multipliers, d up to {}", LARGEST.d);
+    let kinds: [(&str, Vec<Constants>); 4] = [
+        ("random constants", (0..SETS).map(|_| any_allowed(&mut random)).collect()),
+        (&nearest, (0..SETS).map(|_| near_exact(&mut random, LARGEST.d)).collect()),
+        (
+            "the same, c always fitted to b",
+            (0..SETS).map(|_| near_exact_with_fitted_offset(&mut random, LARGEST.d)).collect(),
+        ),
         ("all corners of the limits", corners()),
     ];
     println!("| constants, to the last end | sets | search, mean | search, worst | claim, mean | claim, worst |");
     println!("|---|---|---|---|---|---|");
     for (kind, sets) in kinds {
-        let searches: Vec<Set> = sets.iter().map(|&q| (q, LAST_END)).collect();
-        let search = best_times(raw::harness_first_difference, &searches);
-        let claim = best_times(raw::harness_check_bound, &claims_of(&searches));
+        let search = best_times::<Eight>(raw::ovenquill_first_difference, &searches_of(&sets));
+        let claim = best_times::<EightTo<i64>>(raw::ovenquill_check_bound, &claims_of(&sets));
         let mean = |times: &[f64]| shown(times.iter().sum::<f64>() / times.len() as f64);
         println!(
             "| {kind} | {} | {} | {} | {} | {} |",

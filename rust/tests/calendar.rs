@@ -1,34 +1,43 @@
-//! The crate `calendar`, every function of it, against a table of all days that is built by stepping from each day to the
-//! next (tests/support/plain.rs), and against document 01's rows.
-#![cfg(feature = "harness")]
+//! Days, dates and weekdays, every call, against a table of all days that is built by stepping from each day to the next
+//! (tests/support/plain.rs), and against document 01's rows.
 
 mod support;
 
-use ovenquill::harness::Answer::{Refused, Value};
-use ovenquill::harness::{self, raw, Date};
-use support::plain::{self, FIRST_DAY, LAST_DAY};
+use ovenquill::{
+    add_days, civil_from_days, day_of_year, days_from_civil, is_leap, last_day_of_month, weekday, Date, Weekday, DAYS,
+    MONTHS, YEARS,
+};
+use support::answer::answer;
+use support::answer::Answer::{Refused, Value};
+use support::plain::{self, FIRST_DAY, FIRST_YEAR, LAST_DAY, LAST_YEAR};
 use support::random::Random;
-
-fn date(year: i64, month: i64, day: i64) -> Date {
-    Date { year, month, day }
-}
 
 /// Holds every answer about a count to the table.
 fn try_count(days: i64) {
-    assert_eq!(harness::civil_from_days(days), plain::civil_from_days(days), "the date of {days}");
-    assert_eq!(harness::weekday_from_days(days), plain::weekday_from_days(days), "the weekday of {days}");
+    assert_eq!(answer(civil_from_days(days)), plain::civil_from_days(days), "the date of {days}");
+    let of_week = weekday(days).map(|weekday| (weekday.number(), weekday.name()));
+    assert_eq!(answer(of_week), plain::weekday(days), "the weekday of {days}");
 }
 
 /// Holds every answer about a date to the table.
-fn try_date(year: i64, month: i64, day: i64) {
-    let input = (year, month, day);
-    assert_eq!(harness::days_from_civil(year, month, day), plain::days_from_civil(year, month, day), "{input:?}");
-    assert_eq!(harness::day_of_year(year, month, day), plain::day_of_year(year, month, day), "{input:?}");
+fn try_date(date: Date) {
+    assert_eq!(answer(days_from_civil(date)), plain::days_from_civil(date), "{date:?}");
+    assert_eq!(answer(day_of_year(date)), plain::day_of_year(date), "{date:?}");
 }
 
-fn try_shift(year: i64, month: i64, day: i64, days: i64) {
-    let input = (year, month, day, days);
-    assert_eq!(harness::add_days(year, month, day, days), plain::add_days(year, month, day, days), "{input:?}");
+fn try_month(year: i64, month: i64) {
+    assert_eq!(answer(last_day_of_month(year, month)), plain::last_day_of_month(year, month), "{year} {month}");
+}
+
+fn try_shift(date: Date, days: i64) {
+    assert_eq!(answer(add_days(date, days)), plain::add_days(date, days), "{date:?} {days}");
+}
+
+#[test]
+fn ranges_of_document_01() {
+    assert_eq!(YEARS, FIRST_YEAR..=LAST_YEAR);
+    assert_eq!(MONTHS, 1..=12);
+    assert_eq!(DAYS, FIRST_DAY..=LAST_DAY);
 }
 
 #[test]
@@ -47,21 +56,83 @@ fn rows_of_document_01() {
         (47541, 2100, 3, 1),
         (2932896, 9999, 12, 31),
     ] {
-        assert_eq!(harness::civil_from_days(days), Value(date(year, month, day)));
-        assert_eq!(harness::days_from_civil(year, month, day), Value(days));
+        assert_eq!(civil_from_days(days), Ok(Date::new(year, month, day)));
+        assert_eq!(days_from_civil(Date::new(year, month, day)), Ok(days));
     }
-    for (days, weekday) in [(-719528, 6), (-1, 3), (0, 4), (19487, 3), (2932896, 5)] {
-        assert_eq!(harness::weekday_from_days(days), Value(weekday));
+    for (days, name) in [
+        (-719528, Weekday::Saturday),
+        (-1, Weekday::Wednesday),
+        (0, Weekday::Thursday),
+        (19487, Weekday::Wednesday),
+        (2932896, Weekday::Friday),
+    ] {
+        assert_eq!(weekday(days), Ok(name));
     }
-    assert_eq!(harness::civil_from_days(2932897), Refused(4));
-    assert_eq!(harness::weekday_from_days(2932897), Refused(4));
-    assert_eq!(harness::days_from_civil(1900, 2, 29), Refused(3));
-    assert_eq!(harness::days_from_civil(2023, 13, 99), Refused(2));
-    assert_eq!(harness::is_leap(0), Value(1));
-    assert_eq!(harness::is_leap(1900), Value(0));
-    assert_eq!(harness::is_leap(2000), Value(1));
-    assert_eq!(harness::day_of_year(2000, 12, 31), Value(366));
-    assert_eq!(harness::day_of_year(2100, 12, 31), Value(365));
+    assert_eq!(answer(civil_from_days(2932897)), Refused(4));
+    assert_eq!(answer(weekday(2932897)), Refused(4));
+    assert_eq!(answer(days_from_civil(Date::new(1900, 2, 29))), Refused(3));
+    assert_eq!(answer(days_from_civil(Date::new(2023, 13, 99))), Refused(2));
+    assert_eq!(is_leap(0), Ok(true));
+    assert_eq!(is_leap(1900), Ok(false));
+    assert_eq!(is_leap(2000), Ok(true));
+    assert_eq!(day_of_year(Date::new(2000, 12, 31)), Ok(366));
+    assert_eq!(day_of_year(Date::new(2100, 12, 31)), Ok(365));
+}
+
+#[test]
+fn weekdays_of_known_dates() {
+    // A whole week, and days that are remembered by their weekday or were looked up in another calendar.
+    for (year, month, day, known, name) in [
+        (2023, 5, 7, Weekday::Sunday, "Sunday"),
+        (2023, 5, 8, Weekday::Monday, "Monday"),
+        (2023, 5, 9, Weekday::Tuesday, "Tuesday"),
+        (2023, 5, 10, Weekday::Wednesday, "Wednesday"),
+        (2023, 5, 11, Weekday::Thursday, "Thursday"),
+        (2023, 5, 12, Weekday::Friday, "Friday"),
+        (2023, 5, 13, Weekday::Saturday, "Saturday"),
+        (1582, 10, 15, Weekday::Friday, "Friday"),
+        (1815, 6, 18, Weekday::Sunday, "Sunday"),
+        (1929, 10, 29, Weekday::Tuesday, "Tuesday"),
+        (1969, 7, 20, Weekday::Sunday, "Sunday"),
+        (1987, 10, 19, Weekday::Monday, "Monday"),
+    ] {
+        let days = days_from_civil(Date::new(year, month, day)).unwrap();
+        assert_eq!(weekday(days), Ok(known), "{year}-{month}-{day}");
+        assert_eq!(known.name(), name);
+        assert_eq!(known.to_string(), name);
+        assert_eq!(format!("{known:?}"), name);
+    }
+}
+
+#[test]
+fn numbers_and_names_of_weekdays() {
+    let listed = Weekday::ALL.map(|weekday| (weekday.number(), weekday.name()));
+    let mut expected = plain::WEEKDAYS;
+    expected.sort();
+    assert_eq!(listed, expected);
+    for weekday in Weekday::ALL {
+        assert_eq!(Weekday::from_number(weekday.number()), Some(weekday));
+    }
+    let numbers = plain::WEEKDAYS.map(|weekday| weekday.0);
+    for number in support::powers().into_iter().chain(-10..20) {
+        assert_eq!(Weekday::from_number(number).is_some(), numbers.contains(&number), "{number}");
+    }
+    assert_eq!(format!("{:>9}|{:<9}|", Weekday::Friday, Weekday::Friday), "   Friday|Friday   |");
+}
+
+#[test]
+fn dates_as_text() {
+    for (date, text) in [
+        (Date::new(2023, 5, 10), "2023-05-10"),
+        (Date::new(0, 1, 1), "0000-01-01"),
+        (Date::new(-1, 12, 31), "-0001-12-31"),
+        (Date::new(31999, 2, 3), "31999-02-03"),
+        (Date::new(i64::MIN, 13, 99), "-9223372036854775808-13-99"),
+    ] {
+        assert_eq!(date.to_string(), text);
+    }
+    assert!(Date::new(1999, 12, 31) < Date::new(2000, 1, 1));
+    assert!(Date::new(2000, 1, 31) < Date::new(2000, 2, 1));
 }
 
 #[test]
@@ -69,8 +140,7 @@ fn every_day_both_ways() {
     let mut tried = 0;
     for days in FIRST_DAY..=LAST_DAY {
         try_count(days);
-        let Date { year, month, day } = plain::civil_from_days(days).value();
-        try_date(year, month, day);
+        try_date(plain::civil_from_days(days).value());
         tried += 1;
     }
     assert_eq!(tried, 3652425);
@@ -82,8 +152,8 @@ fn counts_outside_the_range() {
         try_count(FIRST_DAY - beyond);
         try_count(LAST_DAY + beyond);
     }
-    assert_eq!(harness::civil_from_days(FIRST_DAY - 1), Refused(4));
-    assert_eq!(harness::civil_from_days(LAST_DAY + 1), Refused(4));
+    assert_eq!(answer(civil_from_days(FIRST_DAY - 1)), Refused(4));
+    assert_eq!(answer(civil_from_days(LAST_DAY + 1)), Refused(4));
     for days in support::powers() {
         try_count(days);
         // Counts that wrap into the range where a shift is added first.
@@ -100,13 +170,12 @@ fn counts_outside_the_range() {
 
 #[test]
 fn every_year_and_month_with_bad_months_and_days() {
-    for year in -3..=10002 {
-        assert_eq!(harness::is_leap(year), plain::is_leap(year), "{year}");
+    for year in FIRST_YEAR - 3..=LAST_YEAR + 3 {
+        assert_eq!(answer(is_leap(year)), plain::is_leap(year), "{year}");
         for month in -2..=15 {
-            let input = (year, month);
-            assert_eq!(harness::last_day_of_month(year, month), plain::last_day_of_month(year, month), "{input:?}");
+            try_month(year, month);
             for day in [-2, -1, 0, 1, 2, 15, 27, 28, 29, 30, 31, 32, 33] {
-                try_date(year, month, day);
+                try_date(Date::new(year, month, day));
             }
         }
     }
@@ -115,90 +184,101 @@ fn every_year_and_month_with_bad_months_and_days() {
 #[test]
 fn refusals_in_their_order() {
     // Each part right, wrong by one on either side, wrong by far: 1 before 2 before 3 before 4.
-    let years = [i64::MIN, -4, -1, 0, 1900, 2000, 2023, 9999, 10000, 10001, 11970, 65536 + 2000, i64::MAX];
+    let years = [
+        i64::MIN,
+        FIRST_YEAR - 4,
+        FIRST_YEAR - 1,
+        FIRST_YEAR,
+        1900,
+        2000,
+        2023,
+        LAST_YEAR,
+        LAST_YEAR + 1,
+        LAST_YEAR + 2,
+        LAST_YEAR + 1971,
+        65536 + 2000,
+        i64::MAX,
+    ];
     let months = [i64::MIN, -1, 0, 1, 2, 4, 12, 13, 14, 256 + 2, i64::MAX];
     let days = [i64::MIN, -1, 0, 1, 28, 29, 30, 31, 32, 99, 256 + 1, i64::MAX];
-    let shifts = [i64::MIN, -3652425, -1, 0, 1, 3652425, i64::MAX];
+    let whole = LAST_DAY - FIRST_DAY + 1;
+    let shifts = [i64::MIN, -whole, -1, 0, 1, whole, i64::MAX];
     for year in years {
         for month in months {
             for day in days {
-                try_date(year, month, day);
+                try_date(Date::new(year, month, day));
                 for shift in shifts {
-                    try_shift(year, month, day, shift);
+                    try_shift(Date::new(year, month, day), shift);
                 }
             }
         }
     }
-    assert_eq!(harness::add_days(-1, 13, 99, i64::MAX), Refused(1));
-    assert_eq!(harness::add_days(0, 13, 99, i64::MAX), Refused(2));
-    assert_eq!(harness::add_days(0, 12, 99, i64::MAX), Refused(3));
-    assert_eq!(harness::add_days(0, 12, 31, i64::MAX), Refused(4));
+    assert_eq!(answer(add_days(Date::new(FIRST_YEAR - 1, 13, 99), i64::MAX)), Refused(1));
+    assert_eq!(answer(add_days(Date::new(FIRST_YEAR, 13, 99), i64::MAX)), Refused(2));
+    assert_eq!(answer(add_days(Date::new(FIRST_YEAR, 12, 99), i64::MAX)), Refused(3));
+    assert_eq!(answer(add_days(Date::new(FIRST_YEAR, 12, 31), i64::MAX)), Refused(4));
 }
 
 #[test]
 fn numbers_of_every_size() {
     let numbers = support::powers();
     for &number in &numbers {
-        assert_eq!(harness::is_leap(number), plain::is_leap(number), "{number}");
-        for other in [-1, 0, 1, 2, 12, 13, 2000, 9999, 10000] {
-            for (year, month) in [(number, other), (other, number)] {
-                assert_eq!(
-                    harness::last_day_of_month(year, month),
-                    plain::last_day_of_month(year, month),
-                    "{year} {month}"
-                );
-            }
+        assert_eq!(answer(is_leap(number)), plain::is_leap(number), "{number}");
+        for other in [FIRST_YEAR - 1, FIRST_YEAR, 0, 1, 2, 12, 13, 2000, LAST_YEAR, LAST_YEAR + 1] {
+            try_month(number, other);
+            try_month(other, number);
             for third in [0, 1, 29, 32] {
-                try_date(number, other, third);
-                try_date(other, number, third);
-                try_date(other, third, number);
+                try_date(Date::new(number, other, third));
+                try_date(Date::new(other, number, third));
+                try_date(Date::new(other, third, number));
             }
         }
     }
     let mut random = Random::new(2);
     for _ in 0..1_000_000 {
         let [year, month, day, shift] = [0; 4].map(|_| random.choose(&numbers));
-        try_date(year, month, day);
-        try_shift(year, month, day, shift);
+        try_date(Date::new(year, month, day));
+        try_shift(Date::new(year, month, day), shift);
     }
 }
 
 #[test]
 fn shifted_dates() {
+    let (first, last) = (Date::new(FIRST_YEAR, 1, 1), Date::new(LAST_YEAR, 12, 31));
     let dates = [
-        (0, 1, 1),
-        (0, 2, 29),
-        (0, 3, 1),
-        (399, 12, 31),
-        (400, 1, 1),
-        (1600, 2, 29),
-        (1899, 12, 31),
-        (1970, 1, 1),
-        (2000, 2, 28),
-        (2000, 12, 31),
-        (2023, 5, 10),
-        (2100, 3, 1),
-        (9999, 1, 1),
-        (9999, 12, 31),
+        first,
+        Date::new(0, 2, 29),
+        Date::new(0, 3, 1),
+        Date::new(399, 12, 31),
+        Date::new(400, 1, 1),
+        Date::new(1600, 2, 29),
+        Date::new(1899, 12, 31),
+        Date::new(1970, 1, 1),
+        Date::new(2000, 2, 28),
+        Date::new(2000, 12, 31),
+        Date::new(2023, 5, 10),
+        Date::new(2100, 3, 1),
+        Date::new(LAST_YEAR, 1, 1),
+        last,
     ];
     let mut shifts = support::powers();
     shifts.extend(-800..=800);
     shifts.extend((0..19).map(|n| 10i64.pow(n)).flat_map(|power| [power - 1, power, -power, 1 - power]));
     shifts.extend((1..=26).flat_map(|n| [146097 * n, -146097 * n, 36524 * n, -36524 * n, 1461 * n, -1461 * n]));
-    for (year, month, day) in dates {
+    for date in dates {
         for &shift in &shifts {
-            try_shift(year, month, day, shift);
+            try_shift(date, shift);
         }
         // To each end of the range, one short of it and one beyond.
-        let count = plain::days_from_civil(year, month, day).value();
+        let count = plain::days_from_civil(date).value();
         for beyond in -2..=2 {
-            try_shift(year, month, day, FIRST_DAY - count + beyond);
-            try_shift(year, month, day, LAST_DAY - count + beyond);
+            try_shift(date, FIRST_DAY - count + beyond);
+            try_shift(date, LAST_DAY - count + beyond);
         }
-        assert_eq!(harness::add_days(year, month, day, FIRST_DAY - count), Value(date(0, 1, 1)));
-        assert_eq!(harness::add_days(year, month, day, FIRST_DAY - count - 1), Refused(4));
-        assert_eq!(harness::add_days(year, month, day, LAST_DAY - count), Value(date(9999, 12, 31)));
-        assert_eq!(harness::add_days(year, month, day, LAST_DAY - count + 1), Refused(4));
+        assert_eq!(answer(add_days(date, FIRST_DAY - count)), Value(first));
+        assert_eq!(answer(add_days(date, FIRST_DAY - count - 1)), Refused(4));
+        assert_eq!(answer(add_days(date, LAST_DAY - count)), Value(last));
+        assert_eq!(answer(add_days(date, LAST_DAY - count + 1)), Refused(4));
     }
 }
 
@@ -207,29 +287,11 @@ fn random_shifts() {
     let mut random = Random::new(3);
     for _ in 0..2_000_000 {
         let count = random.within(FIRST_DAY, LAST_DAY);
-        let Date { year, month, day } = plain::civil_from_days(count).value();
+        let date = plain::civil_from_days(count).value();
         let shift = random.next() as i64 >> random.within(0, 63);
-        try_shift(year, month, day, shift);
+        try_shift(date, shift);
         // From any day to any other, and as often to one outside.
         let other = random.within(2 * FIRST_DAY, 2 * LAST_DAY);
-        try_shift(year, month, day, other - count);
-    }
-}
-
-#[test]
-fn answers_of_every_length() {
-    // SAFETY: the pointer and the length are those of the slice that is lent.
-    for days in [0, LAST_DAY + 1] {
-        support::try_answer_lengths(4, |x| unsafe { raw::harness_civil_from_days(days, x.as_mut_ptr(), x.len()) });
-        support::try_answer_lengths(3, |x| unsafe { raw::harness_weekday_from_days(days, x.as_mut_ptr(), x.len()) });
-    }
-    for year in [2000, 10000] {
-        support::try_answer_lengths(3, |x| unsafe { raw::harness_is_leap(year, x.as_mut_ptr(), x.len()) });
-        support::try_answer_lengths(3, |x| unsafe { raw::harness_last_day_of_month(year, 2, x.as_mut_ptr(), x.len()) });
-        support::try_answer_lengths(3, |x| unsafe {
-            raw::harness_days_from_civil(year, 2, 29, x.as_mut_ptr(), x.len())
-        });
-        support::try_answer_lengths(3, |x| unsafe { raw::harness_day_of_year(year, 2, 29, x.as_mut_ptr(), x.len()) });
-        support::try_answer_lengths(4, |x| unsafe { raw::harness_add_days(year, 2, 29, 1, x.as_mut_ptr(), x.len()) });
+        try_shift(date, other - count);
     }
 }

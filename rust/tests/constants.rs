@@ -1,12 +1,12 @@
-//! The crate `constants`: the search and the claim against a plain scan of every n, and, where the end is too far to scan,
+//! Constants on trial: the search and the claim against a plain scan of every n, and, where the end is too far to scan,
 //! against a walk of all residues that is held to the scan first (tests/support/plain.rs); and against document 01's rows.
-#![cfg(feature = "harness")]
 
 mod support;
 
-use ovenquill::harness::Answer::{Refused, RefusedAt, Value};
-use ovenquill::harness::{self, raw, Constants};
-use support::plain::{self, LAST_BOUND, LAST_END};
+use ovenquill::{check_bound, first_difference, Constants, CLAIM_BOUNDS, SEARCH_ENDS};
+use support::answer::answer;
+use support::answer::Answer::{Refused, RefusedAt, Value};
+use support::plain::{self, LARGEST, LAST_BOUND, LAST_END, LEAST};
 use support::random::Random;
 
 fn constants(a: i64, b: i64, d: i64, m: i64, c: i64, k: i64, t: i64) -> Constants {
@@ -16,12 +16,11 @@ fn constants(a: i64, b: i64, d: i64, m: i64, c: i64, k: i64, t: i64) -> Constant
 /// Holds searches and claims around the least difference to it. `least` is the least difference below `end`, if any.
 fn try_around(q: Constants, end: i64, least: Option<i64>) {
     let search = |end: i64| {
-        let expected = Value(least.filter(|&n| n < end));
-        assert_eq!(harness::first_difference(q, end), expected, "{q:?} below {end}");
+        let expected = Ok(least.filter(|&n| n < end));
+        assert_eq!(first_difference(q, end), expected, "{q:?} below {end}");
     };
     let claim = |bound: i64| {
-        let expected = plain::claim(least, bound);
-        assert_eq!(harness::check_bound(q, bound), expected, "{q:?} at {bound}");
+        assert_eq!(answer(check_bound(q, bound)), plain::judged(least, bound), "{q:?} at {bound}");
     };
     search(end);
     search(end / 2);
@@ -46,35 +45,43 @@ fn try_around(q: Constants, end: i64, least: Option<i64>) {
 
 /// Constants whose multiplier is the exact ratio's nearest, or one off, for a random ratio and offset.
 fn near_exact(random: &mut Random, d_last: i64) -> Constants {
-    let d = random.within(1, d_last);
-    let a = if random.within(0, 1) == 0 { 1 } else { random.of_any_size(1, 1023) };
-    let mut k = random.within(0, 47);
+    let d = random.within(LEAST.d, d_last);
+    let a = if random.within(0, 1) == 0 { 1 } else { random.of_any_size(LEAST.a, LARGEST.a) };
+    let mut k = random.within(LEAST.k, LARGEST.k);
     // The largest shift that leaves the multiplier within its limit.
-    while (a << k) / d > 4294967294 {
+    while (a << k) / d >= LARGEST.m {
         k -= 1;
     }
-    let m = ((a << k) / d + random.within(0, 1)).min(4294967295);
-    let any = random.within(0, 1023);
-    let b = random.choose(&[0, 0, 1, d.min(1023) - 1, any]);
+    let m = (a << k) / d + random.within(0, 1);
+    let any = random.within(LEAST.b, LARGEST.b);
+    let b = random.choose(&[0, 0, 1, d.min(LARGEST.b) - 1, any]);
     let c = match random.within(0, 3) {
         0 => 0,
-        1 => random.of_any_size(0, 4294967295),
-        _ => ((b << k) / d + random.within(-1, 1) * m).clamp(0, 4294967295),
+        1 => random.of_any_size(LEAST.c, LARGEST.c),
+        _ => ((b << k) / d + random.within(-1, 1) * m).clamp(LEAST.c, LARGEST.c),
     };
-    constants(a, b, d, m, c, k, random.choose(&[0, 0, 0, 1, 2, 255]))
+    constants(a, b, d, m, c, k, random.choose(&[0, 0, 0, 1, 2, LARGEST.t]))
 }
 
 /// Any allowed constants, small numbers as often as large ones.
 fn any_allowed(random: &mut Random, d_last: i64) -> Constants {
     constants(
-        random.of_any_size(1, 1023),
-        random.of_any_size(0, 1023),
-        random.of_any_size(1, d_last),
-        random.of_any_size(0, 4294967295),
-        random.of_any_size(0, 4294967295),
-        random.within(0, 47),
-        random.of_any_size(0, 255),
+        random.of_any_size(LEAST.a, LARGEST.a),
+        random.of_any_size(LEAST.b, LARGEST.b),
+        random.of_any_size(LEAST.d, d_last),
+        random.of_any_size(LEAST.m, LARGEST.m),
+        random.of_any_size(LEAST.c, LARGEST.c),
+        random.within(LEAST.k, LARGEST.k),
+        random.of_any_size(LEAST.t, LARGEST.t),
     )
+}
+
+#[test]
+fn limits_of_document_01() {
+    assert_eq!(Constants::LEAST, LEAST);
+    assert_eq!(Constants::LARGEST, LARGEST);
+    assert_eq!(SEARCH_ENDS, 0..=LAST_END);
+    assert_eq!(CLAIM_BOUNDS, 0..=LAST_BOUND);
 }
 
 #[test]
@@ -91,14 +98,14 @@ fn rows_of_document_01() {
         (constants(1, 0, 1, 1, 1, 0, 0), Some(0)),
     ];
     for (q, least) in rows {
-        assert_eq!(harness::first_difference(q, LAST_END), Value(least), "{q:?}");
-        assert_eq!(harness::first_difference(q, 0), Value(None), "{q:?}");
+        assert_eq!(first_difference(q, LAST_END), Ok(least), "{q:?}");
+        assert_eq!(first_difference(q, 0), Ok(None), "{q:?}");
         try_around(q, LAST_END, least);
     }
     // After 69 was wrong, 70 to 78 are right again: a claim of 79 must still name 69.
-    assert_eq!(harness::check_bound(rows[0].0, 69), Value(()));
-    assert_eq!(harness::check_bound(rows[0].0, 79), RefusedAt(10, 69));
-    assert_eq!(harness::check_bound(rows[0].0, 68), Refused(11));
+    assert_eq!(answer(check_bound(rows[0].0, 69)), Value(()));
+    assert_eq!(answer(check_bound(rows[0].0, 79)), RefusedAt(10, 69));
+    assert_eq!(answer(check_bound(rows[0].0, 68)), Refused(11));
 }
 
 #[test]
@@ -114,13 +121,13 @@ fn rows_of_document_01_scanned() {
 #[test]
 fn row_1461_scanned_to_the_last_end() {
     let q = constants(1, 0, 1461, 376287347, 0, 39, 0);
-    assert_eq!(Value(plain::scan_by_steps(q, LAST_END)), harness::first_difference(q, LAST_END));
+    assert_eq!(Ok(plain::scan_by_steps(q, LAST_END)), first_difference(q, LAST_END));
 }
 
 #[test]
 fn row_146097_scanned_to_the_last_end() {
     let q = constants(1, 0, 146097, 963315389, 0, 47, 0);
-    assert_eq!(Value(plain::scan_by_steps(q, LAST_END)), harness::first_difference(q, LAST_END));
+    assert_eq!(Ok(plain::scan_by_steps(q, LAST_END)), first_difference(q, LAST_END));
 }
 
 #[test]
@@ -177,7 +184,7 @@ fn random_sets_with_larger_divisors_scanned() {
 #[test]
 fn random_sets_to_far_ends_walked() {
     let mut random = Random::new(19);
-    for (d_last, sets) in [(100, 500_000), (3000, 100_000), (1048575, 800)] {
+    for (d_last, sets) in [(100, 500_000), (3000, 100_000), (LARGEST.d, 800)] {
         for set in 0..sets {
             let q = if set % 8 == 0 { any_allowed(&mut random, d_last) } else { near_exact(&mut random, d_last) };
             let end = if set % 4 == 0 { random.of_any_size(0, LAST_END) } else { LAST_END };
@@ -189,13 +196,13 @@ fn random_sets_to_far_ends_walked() {
 #[test]
 fn all_limits_corners() {
     // Every combination of the least, the largest and, for some, a middle number.
-    for d in [1, 2, 1048574, 1048575] {
-        for a in [1, 1023] {
-            for b in [0, 1023] {
-                for m in [0, 1, 4294967295] {
-                    for c in [0, 4294967295] {
-                        for k in [0, 1, 31, 47] {
-                            for t in [0, 255] {
+    for d in [LEAST.d, 2, LARGEST.d - 1, LARGEST.d] {
+        for a in [LEAST.a, LARGEST.a] {
+            for b in [LEAST.b, LARGEST.b] {
+                for m in [LEAST.m, 1, LARGEST.m] {
+                    for c in [LEAST.c, LARGEST.c] {
+                        for k in [LEAST.k, 1, 31, LARGEST.k] {
+                            for t in [LEAST.t, LARGEST.t] {
                                 let q = constants(a, b, d, m, c, k, t);
                                 try_around(q, LAST_END, plain::walk(q, LAST_END));
                             }
@@ -206,19 +213,19 @@ fn all_limits_corners() {
         }
     }
     for end in [0, 1, 2, LAST_END - 1, LAST_END] {
-        assert_eq!(harness::first_difference(constants(1, 0, 4, 1, 0, 2, 0), end), Value(None));
+        assert_eq!(first_difference(constants(1, 0, 4, 1, 0, 2, 0), end), Ok(None));
     }
 }
 
 #[test]
 fn differences_at_the_last_inputs() {
     // ((2^32 - 1) * n + c) >> 32 is n up to n = c, and less above.
-    for c in 4294967280..=4294967295 {
+    for c in LARGEST.c - 15..=LARGEST.c {
         let q = constants(1, 0, 1, 4294967295, c, 32, 0);
         let least = Some(c + 1).filter(|&n| n < LAST_END);
         try_around(q, LAST_END, least);
-        assert_eq!(harness::first_difference(q, LAST_END), Value(least));
-        assert_eq!(harness::check_bound(q, LAST_BOUND), plain::claim(least, LAST_BOUND));
+        assert_eq!(first_difference(q, LAST_END), Ok(least));
+        assert_eq!(answer(check_bound(q, LAST_BOUND)), plain::judged(least, LAST_BOUND));
     }
     // The quotient of n by d with a multiplier one too large differs first where m*n overtakes; ends on either side of it.
     let mut random = Random::new(20);
@@ -226,11 +233,11 @@ fn differences_at_the_last_inputs() {
     while tried < 40 {
         let d = random.within(2, 3000);
         let k = 31 + i64::from(64 - d.leading_zeros());
-        if k > 47 {
+        if k > LARGEST.k {
             continue;
         }
         let m = (1 << k) / d + random.within(0, 1);
-        if m > 4294967295 {
+        if m > LARGEST.m {
             continue;
         }
         let q = constants(1, 0, d, m, 0, k, random.within(0, 1));
@@ -242,25 +249,27 @@ fn differences_at_the_last_inputs() {
     }
 }
 
+/// Document 01's first row, whose first difference is 69.
+const ROW: Constants = Constants { a: 1, b: 0, d: 10, m: 26, c: 0, k: 8, t: 0 };
+
 #[test]
 fn every_limit_off_by_one() {
-    let inside = constants(1, 0, 10, 26, 0, 8, 0);
     let refused = |q: Constants, end: i64, bound: i64| {
-        assert_eq!(harness::first_difference(q, end), Refused(9), "{q:?} below {end}");
-        assert_eq!(harness::check_bound(q, bound), Refused(9), "{q:?} at {bound}");
+        assert_eq!(answer(first_difference(q, end)), Refused(9), "{q:?} below {end}");
+        assert_eq!(answer(check_bound(q, bound)), Refused(9), "{q:?} at {bound}");
     };
     let accepted = |q: Constants| {
         let least = plain::walk(q, 1000);
         try_around(q, 1000, least);
     };
     for (first, last, set) in [
-        (1, 1023, (|x| Constants { a: x, ..constants(1, 0, 10, 26, 0, 8, 0) }) as fn(i64) -> Constants),
-        (0, 1023, |x| Constants { b: x, ..constants(1, 0, 10, 26, 0, 8, 0) }),
-        (1, 1048575, |x| Constants { d: x, ..constants(1, 0, 10, 26, 0, 8, 0) }),
-        (0, 4294967295, |x| Constants { m: x, ..constants(1, 0, 10, 26, 0, 8, 0) }),
-        (0, 4294967295, |x| Constants { c: x, ..constants(1, 0, 10, 26, 0, 8, 0) }),
-        (0, 47, |x| Constants { k: x, ..constants(1, 0, 10, 26, 0, 8, 0) }),
-        (0, 255, |x| Constants { t: x, ..constants(1, 0, 10, 26, 0, 8, 0) }),
+        (LEAST.a, LARGEST.a, (|x| Constants { a: x, ..ROW }) as fn(i64) -> Constants),
+        (LEAST.b, LARGEST.b, |x| Constants { b: x, ..ROW }),
+        (LEAST.d, LARGEST.d, |x| Constants { d: x, ..ROW }),
+        (LEAST.m, LARGEST.m, |x| Constants { m: x, ..ROW }),
+        (LEAST.c, LARGEST.c, |x| Constants { c: x, ..ROW }),
+        (LEAST.k, LARGEST.k, |x| Constants { k: x, ..ROW }),
+        (LEAST.t, LARGEST.t, |x| Constants { t: x, ..ROW }),
     ] {
         accepted(set(first));
         accepted(set(last));
@@ -276,14 +285,12 @@ fn every_limit_off_by_one() {
             }
         }
     }
-    refused(inside, LAST_END + 1, LAST_BOUND + 1);
-    assert_eq!(harness::first_difference(inside, LAST_END), Value(Some(69)));
-    assert_eq!(harness::check_bound(inside, LAST_BOUND), RefusedAt(10, 69));
+    refused(ROW, LAST_END + 1, LAST_BOUND + 1);
+    assert_eq!(answer(first_difference(ROW, LAST_END)), Value(Some(69)));
+    assert_eq!(answer(check_bound(ROW, LAST_BOUND)), RefusedAt(10, 69));
     for number in support::powers() {
-        let search = plain::search(inside, number, plain::walk);
-        assert_eq!(harness::first_difference(inside, number), search, "{number}");
-        let claim = if (0..=LAST_BOUND).contains(&number) { plain::claim(Some(69), number) } else { Refused(9) };
-        assert_eq!(harness::check_bound(inside, number), claim, "{number}");
+        assert_eq!(answer(first_difference(ROW, number)), plain::search(ROW, number, plain::walk), "{number}");
+        assert_eq!(answer(check_bound(ROW, number)), plain::claim(ROW, number, plain::walk), "{number}");
     }
 }
 
@@ -296,36 +303,16 @@ fn several_limits_broken_at_once() {
             random.choose(&choices)
         };
         let q = constants(
-            some(1, 1023),
-            some(0, 1023),
-            some(1, 60),
-            some(0, 4294967295),
-            some(0, 4294967295),
-            some(0, 47),
-            some(0, 255),
+            some(LEAST.a, LARGEST.a),
+            some(LEAST.b, LARGEST.b),
+            some(LEAST.d, 60),
+            some(LEAST.m, LARGEST.m),
+            some(LEAST.c, LARGEST.c),
+            some(LEAST.k, LARGEST.k),
+            some(LEAST.t, LARGEST.t),
         );
         let end = some(0, 50);
-        assert_eq!(harness::first_difference(q, end), plain::search(q, end, plain::walk), "{q:?} below {end}");
-        let claim = if plain::allowed(q) && (0..=LAST_BOUND).contains(&end) {
-            plain::claim(plain::walk(q, end + 1), end)
-        } else {
-            Refused(9)
-        };
-        assert_eq!(harness::check_bound(q, end), claim, "{q:?} at {end}");
-    }
-}
-
-#[test]
-fn answers_of_every_length() {
-    // SAFETY: the pointer and the length are those of the slice that is lent.
-    for k in [8, 48] {
-        for end in [0, 69, 79] {
-            support::try_answer_lengths(3, |x| unsafe {
-                raw::harness_first_difference(1, 0, 10, 26, 0, k, 0, end, x.as_mut_ptr(), x.len())
-            });
-            support::try_answer_lengths(3, |x| unsafe {
-                raw::harness_check_bound(1, 0, 10, 26, 0, k, 0, end, x.as_mut_ptr(), x.len())
-            });
-        }
+        assert_eq!(answer(first_difference(q, end)), plain::search(q, end, plain::walk), "{q:?} below {end}");
+        assert_eq!(answer(check_bound(q, end)), plain::claim(q, end, plain::walk), "{q:?} at {end}");
     }
 }

@@ -1,35 +1,41 @@
-//! The crate `instant`: day, fields, joining and the recording index, against `div_euclid`, `rem_euclid` and the table of
-//! all days (tests/support/plain.rs), and against document 01's rows.
-#![cfg(feature = "harness")]
+//! Instants: day, fields, joining and the recording index, against `div_euclid`, `rem_euclid` and the table of all days
+//! (tests/support/plain.rs), and against document 01's rows.
 
 mod support;
 
-use ovenquill::harness::Answer::{Refused, RefusedAt, Value};
-use ovenquill::harness::{self, raw, Fields};
-use support::plain::{self, DAY, FIRST_DAY, FIRST_INSTANT, LAST_DAY, LAST_INSTANT};
+use ovenquill::{day_of_instant, index_days, join_instant, split_instant, Fields, INSTANTS};
+use support::answer::answer;
+use support::answer::Answer::{Refused, RefusedAt, Value};
+use support::plain::{self, DAY, FIRST_DAY, FIRST_INSTANT, FIRST_YEAR, LAST_DAY, LAST_INSTANT, LAST_YEAR, SECOND};
 use support::random::Random;
 
 /// Holds the day and the fields of any number to the plain ones, and joins the fields of an instant again.
-fn try_instant(ms: i64) {
-    assert_eq!(harness::day_of_instant(ms), plain::day_of_instant(ms), "the day of {ms}");
-    let split = harness::split_instant(ms);
-    assert_eq!(split, plain::split_instant(ms), "the fields of {ms}");
-    if let Value(fields) = split {
-        assert_eq!(harness::join_instant(fields), Value(ms), "{fields:?}");
+fn try_instant(instant: i64) {
+    assert_eq!(answer(day_of_instant(instant)), plain::day_of_instant(instant), "the day of {instant}");
+    let split = split_instant(instant);
+    assert_eq!(answer(split), plain::split_instant(instant), "the fields of {instant}");
+    if let Ok(fields) = split {
+        assert_eq!(join_instant(fields), Ok(instant), "{fields:?}");
     }
 }
 
 fn try_fields(fields: Fields) {
-    let joined = harness::join_instant(fields);
-    assert_eq!(joined, plain::join_instant(fields), "{fields:?}");
-    if let Value(ms) = joined {
-        assert_eq!(harness::split_instant(ms), Value(fields), "{ms}");
+    let joined = join_instant(fields);
+    assert_eq!(answer(joined), plain::join_instant(fields), "{fields:?}");
+    if let Ok(instant) = joined {
+        assert_eq!(split_instant(instant), Ok(fields), "{instant}");
     }
 }
 
 #[test]
+fn range_of_document_01() {
+    assert_eq!(INSTANTS, FIRST_INSTANT..=LAST_INSTANT);
+    assert_eq!(DAY, 86400000);
+}
+
+#[test]
 fn rows_of_document_01() {
-    for (ms, day) in [
+    for (instant, day) in [
         (-86400001, -2),
         (-86400000, -1),
         (-1, -1),
@@ -40,26 +46,26 @@ fn rows_of_document_01() {
         (FIRST_INSTANT, FIRST_DAY),
         (LAST_INSTANT, LAST_DAY),
     ] {
-        assert_eq!(harness::day_of_instant(ms), Value(day));
+        assert_eq!(day_of_instant(instant), Ok(day));
     }
-    for (ms, [year, month, day, hour, minute, second, millisecond]) in [
+    for (instant, [year, month, day, hour, minute, second, millisecond]) in [
         (1683729000000, [2023, 5, 10, 14, 30, 0, 0]),
         (-1, [1969, 12, 31, 23, 59, 59, 999]),
         (FIRST_INSTANT, [0, 1, 1, 0, 0, 0, 0]),
         (LAST_INSTANT, [9999, 12, 31, 23, 59, 59, 999]),
     ] {
         let fields = Fields { year, month, day, hour, minute, second, millisecond };
-        assert_eq!(harness::split_instant(ms), Value(fields));
-        assert_eq!(harness::join_instant(fields), Value(ms));
+        assert_eq!(split_instant(instant), Ok(fields));
+        assert_eq!(join_instant(fields), Ok(instant));
     }
-    for ms in [FIRST_INSTANT - 1, LAST_INSTANT + 1, i64::MIN, i64::MAX] {
-        assert_eq!(harness::day_of_instant(ms), Refused(4));
-        assert_eq!(harness::split_instant(ms), Refused(4));
+    for instant in [FIRST_INSTANT - 1, LAST_INSTANT + 1, i64::MIN, i64::MAX] {
+        assert_eq!(answer(day_of_instant(instant)), Refused(4));
+        assert_eq!(answer(split_instant(instant)), Refused(4));
     }
     let mut days = [7; 4];
-    assert_eq!(harness::index_days(&[-1, 0, 86399999, 86400000], &mut days), Value(4));
+    assert_eq!(index_days(&[-1, 0, 86399999, 86400000], &mut days), Ok(4));
     assert_eq!(days, [-1, 0, 0, 1]);
-    assert_eq!(harness::index_days(&[], &mut []), Value(0));
+    assert_eq!(index_days(&[], &mut []), Ok(0));
 }
 
 #[test]
@@ -84,14 +90,14 @@ fn every_second_around_some_day_boundaries() {
     for day in [FIRST_DAY, -719468, -25509, -1, 0, 11016, 19487, 47541, LAST_DAY] {
         for second in 0..=86400 {
             for near in [-1, 0, 1] {
-                try_instant(day * DAY + second * 1000 + near);
+                try_instant(day * DAY + second * SECOND + near);
             }
         }
     }
 }
 
 #[test]
-fn every_millisecond_around_the_ends_and_zero() {
+fn every_instant_around_the_ends_and_zero() {
     for near in -200_000..=200_000 {
         try_instant(FIRST_INSTANT + near);
         try_instant(near);
@@ -117,12 +123,12 @@ fn numbers_of_every_size() {
 
 #[test]
 fn joined_fields_at_and_beyond_every_limit() {
-    let years = [i64::MIN, -1, 0, 1900, 2000, 9999, 10000, i64::MAX];
+    let years = [i64::MIN, FIRST_YEAR - 1, FIRST_YEAR, 1900, 2000, LAST_YEAR, LAST_YEAR + 1, i64::MAX];
     let months = [i64::MIN, 0, 1, 2, 4, 12, 13, i64::MAX];
     let days = [i64::MIN, 0, 1, 28, 29, 30, 31, 32, i64::MAX];
     let hours = [i64::MIN, -1, 0, 23, 24, i64::MAX];
     let sixties = [i64::MIN, -1, 0, 59, 60, i64::MAX];
-    let milliseconds = [i64::MIN, -1, 0, 999, 1000, i64::MAX];
+    let milliseconds = [i64::MIN, -1, 0, SECOND - 1, SECOND, i64::MAX];
     for year in years {
         for month in months {
             for day in days {
@@ -142,9 +148,9 @@ fn joined_fields_at_and_beyond_every_limit() {
 
 #[test]
 fn one_field_wrong_by_any_size() {
-    let right = Fields { year: 2024, month: 2, day: 29, hour: 23, minute: 59, second: 59, millisecond: 999 };
+    let right = Fields { year: 2024, month: 2, day: 29, hour: 23, minute: 59, second: 59, millisecond: SECOND - 1 };
     let mut numbers = support::powers();
-    numbers.extend(-70..=1100);
+    numbers.extend(-70..=SECOND + 100);
     for number in numbers {
         try_fields(Fields { year: number, ..right });
         try_fields(Fields { month: number, ..right });
@@ -158,19 +164,18 @@ fn one_field_wrong_by_any_size() {
 
 #[test]
 fn joining_refuses_in_order() {
-    let all_wrong = Fields { year: -1, month: 0, day: 0, hour: 24, minute: 60, second: 60, millisecond: 1000 };
-    assert_eq!(harness::join_instant(all_wrong), Refused(1));
+    let all_wrong =
+        Fields { year: FIRST_YEAR - 1, month: 0, day: 0, hour: 24, minute: 60, second: 60, millisecond: SECOND };
+    assert_eq!(answer(join_instant(all_wrong)), Refused(1));
     let year_right = Fields { year: 1900, ..all_wrong };
-    assert_eq!(harness::join_instant(year_right), Refused(2));
+    assert_eq!(answer(join_instant(year_right)), Refused(2));
     let month_right = Fields { month: 2, day: 29, ..year_right };
-    assert_eq!(harness::join_instant(month_right), Refused(3));
+    assert_eq!(answer(join_instant(month_right)), Refused(3));
     let date_right = Fields { day: 28, ..month_right };
-    assert_eq!(harness::join_instant(date_right), Refused(5));
-    assert_eq!(harness::join_instant(Fields { hour: 0, minute: 0, second: 0, ..date_right }), Refused(5));
-    assert_eq!(
-        harness::join_instant(Fields { hour: 0, minute: 0, second: 0, millisecond: 0, ..date_right }),
-        plain::join_instant(Fields { hour: 0, minute: 0, second: 0, millisecond: 0, ..date_right })
-    );
+    assert_eq!(answer(join_instant(date_right)), Refused(5));
+    let last_wrong = Fields { hour: 0, minute: 0, second: 0, ..date_right };
+    assert_eq!(answer(join_instant(last_wrong)), Refused(5));
+    assert_eq!(answer(join_instant(Fields { millisecond: 0, ..last_wrong })), Value(-25509 * DAY));
 }
 
 #[test]
@@ -178,13 +183,13 @@ fn random_fields() {
     let mut random = Random::new(6);
     for _ in 0..3_000_000 {
         try_fields(Fields {
-            year: random.within(-20, 10019),
+            year: random.within(FIRST_YEAR - 20, LAST_YEAR + 20),
             month: random.within(0, 13),
             day: random.within(0, 32),
             hour: random.within(-1, 24),
             minute: random.within(-1, 60),
             second: random.within(-1, 60),
-            millisecond: random.within(-10, 1009),
+            millisecond: random.within(-SECOND / 100, SECOND + SECOND / 100),
         });
     }
 }
@@ -209,10 +214,10 @@ fn guarded<T: Copy>(list: &[T], guard: T) -> Vec<T> {
 fn try_index(instants: &[i64], days_length: usize) {
     let lent = guarded(instants, INSTANT_GUARD);
     let mut days = guarded(&vec![BEFORE; days_length], DAY_GUARD);
-    let answer = harness::index_days(&lent[AROUND..AROUND + instants.len()], &mut days[AROUND..AROUND + days_length]);
+    let result = index_days(&lent[AROUND..AROUND + instants.len()], &mut days[AROUND..AROUND + days_length]);
 
     let mut expected = vec![BEFORE; days_length];
-    assert_eq!(answer, plain::index_days(instants, &mut expected), "{} instants", instants.len());
+    assert_eq!(answer(result), plain::index_days(instants, &mut expected), "{} instants", instants.len());
     assert!(days == guarded(&expected, DAY_GUARD), "the days of {} instants are wrong", instants.len());
     assert!(lent == guarded(instants, INSTANT_GUARD), "an instant changed");
 }
@@ -259,7 +264,7 @@ fn indexes_with_several_bad_instants() {
         try_index(&vec![i64::MIN; length], length);
     }
     let mut days = [BEFORE; 3];
-    assert_eq!(harness::index_days(&[0, i64::MAX, i64::MIN], &mut days), RefusedAt(4, 1));
+    assert_eq!(answer(index_days(&[0, i64::MAX, i64::MIN], &mut days)), RefusedAt(4, 1));
     assert_eq!(days, [BEFORE; 3]);
 }
 
@@ -275,8 +280,8 @@ fn indexes_of_unequal_lengths() {
             try_index(&bad, days_length);
         }
     }
-    assert_eq!(harness::index_days(&[i64::MAX], &mut []), Refused(12));
-    assert_eq!(harness::index_days(&[], &mut [BEFORE]), Refused(12));
+    assert_eq!(answer(index_days(&[i64::MAX], &mut [])), Refused(12));
+    assert_eq!(answer(index_days(&[], &mut [BEFORE])), Refused(12));
 }
 
 #[test]
@@ -288,25 +293,5 @@ fn an_index_of_a_million_instants() {
         let right = std::mem::replace(&mut instants[place], LAST_INSTANT + 1);
         try_index(&instants, instants.len());
         instants[place] = right;
-    }
-}
-
-#[test]
-fn answers_of_every_length() {
-    // SAFETY: each pointer and length are those of a slice that is lent.
-    for ms in [-1, LAST_INSTANT + 1] {
-        support::try_answer_lengths(3, |x| unsafe { raw::harness_day_of_instant(ms, x.as_mut_ptr(), x.len()) });
-        support::try_answer_lengths(8, |x| unsafe { raw::harness_split_instant(ms, x.as_mut_ptr(), x.len()) });
-        // The days are written, or left alone, whatever the length of the answer.
-        support::try_answer_lengths(3, |x| {
-            let (instants, mut days) = ([0, ms], [BEFORE; 2]);
-            unsafe { raw::harness_index_days(instants.as_ptr(), 2, days.as_mut_ptr(), 2, x.as_mut_ptr(), x.len()) };
-            assert_eq!(days, if ms == -1 { [0, -1] } else { [BEFORE; 2] });
-        });
-    }
-    for hour in [0, 24] {
-        support::try_answer_lengths(3, |x| unsafe {
-            raw::harness_join_instant(2023, 5, 10, hour, 0, 0, 0, x.as_mut_ptr(), x.len())
-        });
     }
 }

@@ -1,70 +1,87 @@
-//! The crate `labels`: the writers of instant and position labels against `write!` and `format!`, the reader against a
-//! checker that goes byte by byte (tests/support/plain.rs), and all three against document 01's rows.
-#![cfg(feature = "harness")]
+//! Labels: the writers of instant and position labels against `write!` and `format!`, the reader against a checker that goes
+//! byte by byte (tests/support/plain.rs), all three against document 01's rows, and the labels that are held by value.
 
 mod support;
 
-use ovenquill::harness::Answer::{Refused, Value};
-use ovenquill::harness::{self, raw, Answer};
-use std::ptr;
-use support::plain::{self, DAY, FIRST_DAY, FIRST_INSTANT, LAST_DAY, LAST_INSTANT, LAST_POSITION};
+use ovenquill::{
+    instant_label, position_label, read_instant, write_instant, write_position, InstantLabel, PositionLabel, Refusal,
+    INSTANT_LABEL_BYTES, POSITIONS, POSITION_LABEL_BYTES,
+};
+use std::collections::HashSet;
+use support::answer::Answer::{self, Refused, Value};
+use support::answer::{answer, Refusing};
+use support::plain::{
+    self, DAY, FIRST_DAY, FIRST_INSTANT, LABEL_BYTES, LAST_DAY, LAST_INSTANT, LAST_POSITION, POSITION_HOUR,
+    POSITION_MINUTE, POSITION_SECOND, SECOND,
+};
 use support::random::Random;
 
-type Writer = fn(i64, &mut [u8]) -> Answer<i64>;
-
 /// Writes to a buffer of that length among guard bytes and holds the answer and every byte to the plain writer's.
-fn try_writing(ours: Writer, plain: Writer, ms: i64, length: usize) {
+fn try_writing<E: Refusing>(
+    ours: fn(i64, &mut [u8]) -> Result<usize, E>,
+    plain: fn(i64, &mut [u8]) -> Answer<usize>,
+    number: i64,
+    length: usize,
+) {
     let fill = 0x80 + (length as u8);
-    let mut answer = Refused(0);
-    let bytes = support::with_guards(length, fill, |out| answer = ours(ms, out));
+    let mut result = Refused(0);
+    let bytes = support::with_guards(length, fill, |out| result = answer(ours(number, out)));
     let mut expected = vec![fill; length];
-    assert_eq!(answer, plain(ms, &mut expected), "{ms} in {length} bytes");
-    assert_eq!(bytes, expected, "{ms} in {length} bytes");
+    assert_eq!(result, plain(number, &mut expected), "{number} in {length} bytes");
+    assert_eq!(bytes, expected, "{number} in {length} bytes");
 }
 
 /// Writes the label of an instant in the range, holds it to the plain one and reads it again.
-fn try_label(ms: i64) {
-    let mut label = [b'?'; 24];
-    assert_eq!(harness::write_instant(ms, &mut label), Value(24), "{ms}");
-    assert_eq!(label, plain::instant_label(ms), "{ms}");
-    assert_eq!(harness::read_instant(&label), Value(ms), "{ms}");
+fn try_label(instant: i64) {
+    let mut label = [b'?'; LABEL_BYTES];
+    assert_eq!(write_instant(instant, &mut label), Ok(LABEL_BYTES), "{instant}");
+    assert_eq!(label, plain::instant_label(instant), "{instant}");
+    assert_eq!(read_instant(&label), Ok(instant), "{instant}");
 }
 
 /// Reads any bytes and holds the answer to the plain reader's; what is accepted is written again.
 fn try_reading(label: &[u8]) {
-    let read = harness::read_instant(label);
-    assert_eq!(read, plain::read_instant(label), "{:?}", String::from_utf8_lossy(label));
-    if let Value(ms) = read {
-        let mut again = [b'?'; 24];
-        assert_eq!(harness::write_instant(ms, &mut again), Value(24));
+    let read = read_instant(label);
+    assert_eq!(answer(read), plain::read_instant(label), "{:?}", String::from_utf8_lossy(label));
+    if let Ok(instant) = read {
+        let mut again = [b'?'; LABEL_BYTES];
+        assert_eq!(write_instant(instant, &mut again), Ok(LABEL_BYTES));
         assert_eq!(again, label);
     }
 }
 
-fn try_position(ms: i64) {
+fn try_position(position: i64) {
     let mut label = [b'?'; 24];
     let mut expected = label;
-    assert_eq!(harness::write_position(ms, &mut label), plain::write_position(ms, &mut expected), "{ms}");
-    assert_eq!(label, expected, "{ms}");
+    let written = answer(write_position(position, &mut label));
+    assert_eq!(written, plain::write_position(position, &mut expected), "{position}");
+    assert_eq!(label, expected, "{position}");
+}
+
+#[test]
+fn lengths_and_range_of_document_01() {
+    assert_eq!(INSTANT_LABEL_BYTES, LABEL_BYTES);
+    assert_eq!(POSITIONS, 0..=LAST_POSITION);
+    assert_eq!(POSITION_LABEL_BYTES, plain::position_label(LAST_POSITION).len());
 }
 
 #[test]
 fn rows_of_document_01() {
-    for (ms, label) in [
+    for (instant, label) in [
         (1683729000000, b"2023-05-10T14:30:00.000Z"),
         (-1, b"1969-12-31T23:59:59.999Z"),
         (0, b"1970-01-01T00:00:00.000Z"),
         (FIRST_INSTANT, b"0000-01-01T00:00:00.000Z"),
         (LAST_INSTANT, b"9999-12-31T23:59:59.999Z"),
     ] {
-        let mut out = [0; 24];
-        assert_eq!(harness::write_instant(ms, &mut out), Value(24));
+        let mut out = [0; LABEL_BYTES];
+        assert_eq!(write_instant(instant, &mut out), Ok(LABEL_BYTES));
         assert_eq!(&out, label);
-        assert_eq!(harness::read_instant(label), Value(ms));
+        assert_eq!(read_instant(label), Ok(instant));
     }
-    assert_eq!(harness::read_instant(b"2016-12-31T23:59:60.000Z"), Refused(5));
+    assert_eq!(answer(read_instant(b"2016-12-31T23:59:60.000Z")), Refused(5));
 
-    for (ms, label) in [
+    for (position, label) in [
         (0, "00:00:00.000"),
         (359999999999, "99999:59:59.999"),
         (4287767296, "1191:02:47.296"),
@@ -73,14 +90,14 @@ fn rows_of_document_01() {
         (360000000, "100:00:00.000"),
     ] {
         let mut out = [b'?'; 16];
-        assert_eq!(harness::write_position(ms, &mut out), Value(label.len() as i64));
+        assert_eq!(write_position(position, &mut out), Ok(label.len()));
         assert_eq!(&out[..label.len()], label.as_bytes());
         assert!(out[label.len()..].iter().all(|&byte| byte == b'?'));
     }
-    assert_eq!(harness::write_position(4287767296, &mut [0; 14]), Value(14));
-    assert_eq!(harness::write_position(4287767296, &mut [0; 13]), Refused(7));
-    assert_eq!(harness::write_position(-1, &mut [0; 15]), Refused(6));
-    assert_eq!(harness::write_position(360000000000, &mut [0; 15]), Refused(6));
+    assert_eq!(answer(write_position(4287767296, &mut [0; 14])), Value(14));
+    assert_eq!(answer(write_position(4287767296, &mut [0; 13])), Refused(7));
+    assert_eq!(answer(write_position(-1, &mut [0; 15])), Refused(6));
+    assert_eq!(answer(write_position(360000000000, &mut [0; 15])), Refused(6));
 }
 
 // Writing instants
@@ -102,9 +119,9 @@ fn labels_of_random_instants() {
 }
 
 #[test]
-fn labels_of_every_second_and_every_millisecond() {
+fn labels_of_every_second_and_around_zero() {
     for second in 0..86400 {
-        try_label(19487 * DAY + second * 1000 + second % 1000);
+        try_label(19487 * DAY + second * SECOND + second % SECOND);
     }
     for near in -100_000..100_000 {
         try_label(near);
@@ -116,13 +133,13 @@ fn instants_in_buffers_of_every_length() {
     let outside = [FIRST_INSTANT - 1, LAST_INSTANT + 1, i64::MIN, i64::MAX];
     let inside = [FIRST_INSTANT, LAST_INSTANT, -1, 0, 1683729000000];
     for length in 0..=40 {
-        for ms in outside.into_iter().chain(inside).chain(support::powers()) {
-            try_writing(harness::write_instant, plain::write_instant, ms, length);
+        for instant in outside.into_iter().chain(inside).chain(support::powers()) {
+            try_writing(write_instant, plain::write_instant, instant, length);
         }
     }
     // 4 before 7.
-    assert_eq!(harness::write_instant(i64::MAX, &mut [0; 23]), Refused(4));
-    assert_eq!(harness::write_instant(0, &mut [0; 23]), Refused(7));
+    assert_eq!(answer(write_instant(i64::MAX, &mut [0; LABEL_BYTES - 1])), Refused(4));
+    assert_eq!(answer(write_instant(0, &mut [0; LABEL_BYTES - 1])), Refused(7));
 }
 
 // Reading instants
@@ -131,20 +148,21 @@ fn instants_in_buffers_of_every_length() {
 fn labels_of_every_length() {
     // A label cut off or gone on with, at every length, with the bytes around it varied: they are none of its business.
     let mut random = Random::new(12);
+    let label_end = 20 + LABEL_BYTES;
     for around in 0..=255u8 {
         let label = plain::instant_label(random.within(FIRST_INSTANT, LAST_INSTANT));
         for length in 0..=40 {
             let mut bytes = [around; 80];
-            bytes[20..44].copy_from_slice(&label);
+            bytes[20..label_end].copy_from_slice(&label);
             try_reading(&bytes[20..20 + length]);
-            try_reading(&bytes[44 - length.min(44)..44]);
+            try_reading(&bytes[label_end - length..label_end]);
             try_reading(&[around; 40][..length]);
         }
     }
     for length in 0..=40 {
         let digits = b"2023-05-10T14:30:00.000Z2023-05-10T14:30:00.000Z";
         try_reading(&digits[..length]);
-        assert_eq!(harness::read_instant(&digits[..length]) == Refused(8), length != 24);
+        assert_eq!(answer(read_instant(&digits[..length])) == Refused(8), length != LABEL_BYTES);
     }
 }
 
@@ -153,9 +171,9 @@ fn one_byte_damaged_at_every_place_with_every_value() {
     let mut random = Random::new(13);
     let mut instants = vec![FIRST_INSTANT, LAST_INSTANT, 0, -1, 1683729000000];
     instants.extend((0..200).map(|_| random.within(FIRST_INSTANT, LAST_INSTANT)));
-    for ms in instants {
-        let label = plain::instant_label(ms);
-        for place in 0..24 {
+    for instant in instants {
+        let label = plain::instant_label(instant);
+        for place in 0..LABEL_BYTES {
             for value in 0..=255 {
                 let mut damaged = label;
                 damaged[place] = value;
@@ -172,13 +190,13 @@ fn several_bytes_damaged() {
     for _ in 0..3_000_000 {
         let mut label = plain::instant_label(random.within(FIRST_INSTANT, LAST_INSTANT));
         for _ in 0..random.within(2, 6) {
-            let place = random.within(0, 23) as usize;
+            let place = random.within(0, LABEL_BYTES as i64 - 1) as usize;
             label[place] = random.choose(likely);
         }
         try_reading(&label);
     }
     for _ in 0..1_000_000 {
-        let digits: Vec<u8> = (0..24).map(|_| random.choose(likely)).collect();
+        let digits: Vec<u8> = (0..LABEL_BYTES).map(|_| random.choose(likely)).collect();
         try_reading(&digits);
     }
 }
@@ -240,7 +258,7 @@ fn the_reader_refuses_in_order() {
         (b"2023-05-10T23:60:00.000Z", 5),
         (b"2023-05-10T23:59:60.000Z", 5),
     ] {
-        assert_eq!(harness::read_instant(label), Refused(refusal), "{:?}", String::from_utf8_lossy(label));
+        assert_eq!(answer(read_instant(label)), Refused(refusal), "{:?}", String::from_utf8_lossy(label));
     }
 }
 
@@ -250,7 +268,7 @@ fn the_reader_refuses_in_order() {
 fn positions_worth_trying() -> Vec<i64> {
     let mut positions = vec![i64::MIN, i64::MIN + 1, i64::MAX - 1, i64::MAX, LAST_POSITION, LAST_POSITION + 1];
     for power in (0..16).map(|n| 10i64.pow(n)) {
-        for unit in [1, 1000, 60000, 3600000] {
+        for unit in [1, POSITION_SECOND, POSITION_MINUTE, POSITION_HOUR] {
             for near in -2..=2 {
                 positions.push(power.saturating_mul(unit).saturating_add(near));
                 positions.push((power.saturating_mul(unit)).saturating_neg() + near);
@@ -262,15 +280,13 @@ fn positions_worth_trying() -> Vec<i64> {
 
 #[test]
 fn positions_at_every_power_of_ten_and_limit() {
-    for ms in positions_worth_trying().into_iter().chain(support::powers()) {
-        try_position(ms);
+    for position in positions_worth_trying().into_iter().chain(support::powers()) {
+        try_position(position);
     }
     for near in -200_000..=200_000 {
-        try_position(near);
-        try_position(3600000 + near);
-        try_position(360000000 + near);
-        try_position(3600000000 + near);
-        try_position(36000000000 + near);
+        for hours in [0, 1, 100, 1000, 10000] {
+            try_position(hours * POSITION_HOUR + near);
+        }
         try_position(LAST_POSITION + near);
     }
 }
@@ -288,65 +304,102 @@ fn random_positions() {
 fn every_hour() {
     let mut random = Random::new(16);
     for hour in 0..100_000 {
-        try_position(hour * 3600000);
-        try_position(hour * 3600000 + random.within(0, 3599999));
-        try_position(hour * 3600000 + 3599999);
+        try_position(hour * POSITION_HOUR);
+        try_position(hour * POSITION_HOUR + random.within(0, POSITION_HOUR - 1));
+        try_position(hour * POSITION_HOUR + POSITION_HOUR - 1);
     }
 }
 
 #[test]
 fn positions_in_buffers_of_every_length() {
     for length in 0..=20 {
-        for ms in positions_worth_trying() {
-            try_writing(harness::write_position, plain::write_position, ms, length);
+        for position in positions_worth_trying() {
+            try_writing(write_position, plain::write_position, position, length);
         }
     }
     // Exactly 12 to 15 bytes, by the hours.
     for (bytes, first_hour, last_hour) in [(12, 0, 99), (13, 100, 999), (14, 1000, 9999), (15, 10000, 99999)] {
-        for ms in [first_hour * 3600000, last_hour * 3600000 + 3599999] {
+        for position in [first_hour * POSITION_HOUR, last_hour * POSITION_HOUR + POSITION_HOUR - 1] {
             let mut out = vec![0; bytes];
-            assert_eq!(harness::write_position(ms, &mut out), Value(bytes as i64));
-            assert_eq!(harness::write_position(ms, &mut out[1..]), Refused(7));
+            assert_eq!(answer(write_position(position, &mut out)), Value(bytes));
+            assert_eq!(answer(write_position(position, &mut out[1..])), Refused(7));
         }
     }
     // 6 before 7.
-    assert_eq!(harness::write_position(-1, &mut []), Refused(6));
-    assert_eq!(harness::write_position(0, &mut []), Refused(7));
+    assert_eq!(answer(write_position(-1, &mut [])), Refused(6));
+    assert_eq!(answer(write_position(0, &mut [])), Refused(7));
+}
+
+// Labels by value
+
+#[test]
+fn instant_labels_by_value() {
+    let mut random = Random::new(22);
+    let mut before: Option<(i64, InstantLabel)> = None;
+    for _ in 0..300_000 {
+        let instant = random.within(FIRST_INSTANT, LAST_INSTANT);
+        let expected = plain::instant_label(instant);
+        let text = std::str::from_utf8(&expected).unwrap();
+        let label = instant_label(instant).unwrap();
+        assert_eq!((label.as_str(), label.as_bytes()), (text, &expected[..]));
+        assert_eq!(text.parse(), Ok(label));
+        assert_eq!(InstantLabel::try_from(&expected[..]), Ok(label));
+        assert_eq!(read_instant(label.as_ref()), Ok(instant));
+        if let Some((other, other_label)) = before {
+            assert_eq!(label.cmp(&other_label), instant.cmp(&other), "{label} {other_label}");
+            assert_eq!(label == other_label, instant == other, "{label} {other_label}");
+        }
+        before = Some((instant, label));
+    }
+    for instant in [FIRST_INSTANT - 1, LAST_INSTANT + 1, i64::MIN, i64::MAX] {
+        assert_eq!(instant_label(instant), Err(Refusal::OutOfRange));
+    }
+    assert_eq!("2023-02-29T00:00:00.000Z".parse::<InstantLabel>(), Err(Refusal::DayOutOfRange));
+    assert_eq!(InstantLabel::try_from(&b"\xff"[..]), Err(Refusal::MalformedLabel));
 }
 
 #[test]
-fn answers_of_every_length() {
-    // SAFETY: each pointer and length are those of a slice that is lent.
-    for (ms, length) in [(0, 24), (0, 11), (i64::MAX, 24)] {
-        let call = |write: unsafe extern "C" fn(i64, *mut u8, usize, *mut i64, usize), expected: &[u8]| {
-            // The buffer is written, or left alone, whatever the length of the answer.
-            support::try_answer_lengths(3, |x| {
-                let mut out = vec![b'?'; length];
-                unsafe { write(ms, out.as_mut_ptr(), length, x.as_mut_ptr(), x.len()) };
-                assert_eq!(out, expected);
-            });
-        };
-        let untouched = vec![b'?'; length];
-        let written = ms == 0 && length == 24;
-        call(raw::harness_write_instant, if written { b"1970-01-01T00:00:00.000Z" } else { &untouched });
-        call(raw::harness_write_position, if written { b"00:00:00.000????????????" } else { &untouched });
+fn position_labels_by_value() {
+    let mut random = Random::new(23);
+    let mut before: Option<(i64, PositionLabel)> = None;
+    for _ in 0..300_000 {
+        let position = random.of_any_size(0, LAST_POSITION);
+        let expected = plain::position_label(position);
+        let label = position_label(position).unwrap();
+        assert_eq!((label.as_str(), label.as_bytes()), (&expected[..], expected.as_bytes()));
+        if let Some((other, other_label)) = before {
+            assert_eq!(label.cmp(&other_label), position.cmp(&other), "{label} {other_label}");
+            assert_eq!(label == other_label, position == other, "{label} {other_label}");
+        }
+        before = Some((position, label));
     }
-    for label in [&b"1970-01-01T00:00:00.000Z"[..], b""] {
-        support::try_answer_lengths(3, |x| unsafe {
-            raw::harness_read_instant(label.as_ptr(), label.len(), x.as_mut_ptr(), x.len())
-        });
+    for position in [-1, LAST_POSITION + 1, i64::MIN, i64::MAX] {
+        assert_eq!(position_label(position), Err(Refusal::PositionOutOfRange));
     }
 }
 
+/// What both kinds of labels do as text: compare, show themselves and hash.
+macro_rules! try_as_text {
+    ($label:expr, $other:expr, $text:literal, $debug:literal) => {
+        let (label, other) = ($label.unwrap(), $other.unwrap());
+        assert!(label == $text && $text == label && label == *$text && *$text == label);
+        assert!(other != $text && $text != other && other != *$text && *$text != other);
+        assert_eq!(AsRef::<str>::as_ref(&label), $text);
+        assert_eq!(AsRef::<[u8]>::as_ref(&label), $text.as_bytes());
+        assert_eq!(label.to_string(), $text);
+        assert_eq!(format!("{label:>26}|{label:<26}|"), format!("{:>26}|{:<26}|", $text, $text));
+        assert_eq!(format!("{label:?}"), $debug);
+        assert_eq!(HashSet::from([label, other, label]).len(), 2);
+    };
+}
+
 #[test]
-fn no_buffer_at_all() {
-    // As C may lend it: null, with the length 0.
-    let mut answer = [7; 3];
-    // SAFETY: no byte is lent, and the answer is ours.
-    unsafe { raw::harness_write_instant(0, ptr::null_mut(), 0, answer.as_mut_ptr(), 3) };
-    assert_eq!(answer, [1, 7, 0]);
-    unsafe { raw::harness_write_position(0, ptr::null_mut(), 0, answer.as_mut_ptr(), 3) };
-    assert_eq!(answer, [1, 7, 0]);
-    unsafe { raw::harness_read_instant(ptr::null(), 0, answer.as_mut_ptr(), 3) };
-    assert_eq!(answer, [1, 8, 0]);
+fn labels_as_text() {
+    try_as_text!(
+        instant_label(-1),
+        instant_label(0),
+        "1969-12-31T23:59:59.999Z",
+        "InstantLabel(\"1969-12-31T23:59:59.999Z\")"
+    );
+    try_as_text!(position_label(4287767296), position_label(0), "1191:02:47.296", "PositionLabel(\"1191:02:47.296\")");
 }

@@ -1,6 +1,8 @@
-//! What the tests share: an independent implementation of document 01, random numbers and numbers that are worth trying.
+//! What the tests share: an independent implementation of document 01, the form of answers, random numbers and numbers that
+//! are worth trying.
 #![allow(dead_code)] // each test file uses its own part
 
+pub mod answer;
 pub mod plain;
 pub mod random;
 
@@ -15,23 +17,6 @@ pub fn powers() -> Vec<i64> {
     numbers.sort();
     numbers.dedup();
     numbers
-}
-
-/// Calls with answers of every length from 0 to 4 more than `whole`: a shorter one is left alone; a longer one has the
-/// same front as one of the whole length, and its rest is left alone.
-pub fn try_answer_lengths(whole: usize, mut call: impl FnMut(&mut [i64])) {
-    const GUARD: i64 = -0x0123_4567_89ab_cdef;
-    let mut right = vec![GUARD; whole];
-    call(&mut right);
-    for length in 0..=whole + 4 {
-        let mut lent = vec![GUARD; length + 2];
-        call(&mut lent[1..=length]);
-        let mut expected = vec![GUARD; length + 2];
-        if length >= whole {
-            expected[1..=whole].copy_from_slice(&right);
-        }
-        assert_eq!(lent, expected, "an answer of {length} numbers");
-    }
 }
 
 /// Lends the call the middle of a buffer and answers the middle as it is afterwards. The bytes on either side, 48 or a few

@@ -1,25 +1,56 @@
-//! Document 01 in plain Rust, written from its text and sharing nothing with the library but the shape of the answers.
-//! The calendar is a table of every day, built by stepping from each day to the next; instants go by `div_euclid` and
-//! `rem_euclid`, labels by `write!`, the reader byte by byte, and the constants by trying every n.
+//! Document 01 in plain Rust, written from its text and sharing nothing with the library but the types of dates, fields and
+//! constants. The calendar is a table of every day, built by stepping from each day to the next; instants go by
+//! `div_euclid` and `rem_euclid`, labels by `write!`, the reader byte by byte, and the constants by trying every n.
 
-use ovenquill::harness::Answer::{Refused, RefusedAt, Value};
-use ovenquill::harness::{Answer, Constants, Date, Fields};
+use super::answer::Answer::{self, Refused, RefusedAt, Value};
+use ovenquill::{Constants, Date, Fields};
 use std::io::Write;
 use std::sync::OnceLock;
 
+// Document 01's numbers
+
+pub const FIRST_YEAR: i64 = 0;
+pub const LAST_YEAR: i64 = 9999;
 pub const FIRST_DAY: i64 = -719528;
 pub const LAST_DAY: i64 = 2932896;
+
+/// The weekdays' numbers and names, each the day after the one before it.
+pub const WEEKDAYS: [(i64, &str); 7] =
+    [(0, "Sunday"), (1, "Monday"), (2, "Tuesday"), (3, "Wednesday"), (4, "Thursday"), (5, "Friday"), (6, "Saturday")];
+const FIRST_WEEKDAY: &str = "Saturday";
+const EPOCH_WEEKDAY: &str = "Thursday";
+
+/// A second in the unit of an instant.
+pub const SECOND: i64 = 1000;
+pub const MINUTE: i64 = 60 * SECOND;
+pub const HOUR: i64 = 60 * MINUTE;
+pub const DAY: i64 = 24 * HOUR;
 pub const FIRST_INSTANT: i64 = -62167219200000;
 pub const LAST_INSTANT: i64 = 253402300799999;
+
+/// The shape of an instant label, with d for a digit.
+const LABEL_SHAPE: &[u8; LABEL_BYTES] = b"dddd-dd-ddTdd:dd:dd.dddZ";
+pub const LABEL_BYTES: usize = 24;
+
+/// A second in the unit of a position.
+pub const POSITION_SECOND: i64 = 1000;
+pub const POSITION_MINUTE: i64 = 60 * POSITION_SECOND;
+pub const POSITION_HOUR: i64 = 60 * POSITION_MINUTE;
 pub const LAST_POSITION: i64 = 359999999999;
-pub const DAY: i64 = 86400000;
+
+/// The least and the largest constants that are allowed.
+pub const LEAST: Constants = Constants { a: 1, b: 0, d: 1, m: 0, c: 0, k: 0, t: 0 };
+pub const LARGEST: Constants = Constants { a: 1023, b: 1023, d: 1048575, m: 4294967295, c: 4294967295, k: 47, t: 255 };
+/// The largest search end, which is also the end that document 01's rows mean where they name none.
+pub const LAST_END: i64 = 4294967295;
+pub const LAST_BOUND: i64 = 4294967294;
 
 // The calendar
 
-/// A day as the table has it.
+/// A day as the table has it; the weekday is a place in the list of weekdays.
 #[derive(Clone, Copy)]
 struct Day {
-    year: u16,
+    year: i16,
     month: u8,
     day: u8,
     weekday: u8,
@@ -57,18 +88,22 @@ fn next(today: Day) -> Day {
 fn calendar() -> &'static Calendar {
     static CALENDAR: OnceLock<Calendar> = OnceLock::new();
     CALENDAR.get_or_init(|| {
-        let mut days = Vec::with_capacity(3652425);
-        let mut months = Vec::with_capacity(120000);
-        let mut today = Day { year: 0, month: 1, day: 1, weekday: 6, day_of_year: 1 };
+        let weekday = WEEKDAYS.iter().position(|weekday| weekday.1 == FIRST_WEEKDAY).expect("one of the seven") as u8;
+        let mut days = Vec::new();
+        let mut months = Vec::new();
+        let mut today = Day { year: FIRST_YEAR as i16, month: 1, day: 1, weekday, day_of_year: 1 };
         for count in FIRST_DAY..=LAST_DAY {
             if today.day == 1 {
                 months.push(count);
             }
+            if count == 0 {
+                assert_eq!((today.year, today.month, today.day), (1970, 1, 1));
+                assert_eq!(WEEKDAYS[usize::from(today.weekday)].1, EPOCH_WEEKDAY);
+            }
             days.push(today);
             today = next(today);
         }
-        assert!((today.year, today.month, today.day) == (10000, 1, 1), "the range ends with year 9999");
-        assert!(days[719528].weekday == 4, "day 0 is a Thursday");
+        assert_eq!((i64::from(today.year), today.month, today.day), (LAST_YEAR + 1, 1, 1));
         Calendar { days, months }
     })
 }
@@ -79,7 +114,7 @@ fn day_in_range(days: i64) -> Option<&'static Day> {
 
 /// The first of refusals 1, 2 and 3 that a date has.
 fn date_refusal(year: i64, month: i64, day: i64) -> Option<i64> {
-    if !(0..=9999).contains(&year) {
+    if !(FIRST_YEAR..=LAST_YEAR).contains(&year) {
         Some(1)
     } else if !(1..=12).contains(&month) {
         Some(2)
@@ -91,14 +126,14 @@ fn date_refusal(year: i64, month: i64, day: i64) -> Option<i64> {
 }
 
 /// The count of a date that has no refusal.
-fn count(year: i64, month: i64, day: i64) -> i64 {
-    calendar().months[(12 * year + month - 1) as usize] + day - 1
+fn count(date: Date) -> i64 {
+    calendar().months[(12 * (date.year - FIRST_YEAR) + date.month - 1) as usize] + date.day - 1
 }
 
-pub fn days_from_civil(year: i64, month: i64, day: i64) -> Answer<i64> {
-    match date_refusal(year, month, day) {
+pub fn days_from_civil(date: Date) -> Answer<i64> {
+    match date_refusal(date.year, date.month, date.day) {
         Some(refusal) => Refused(refusal),
-        None => Value(count(year, month, day)),
+        None => Value(count(date)),
     }
 }
 
@@ -109,14 +144,15 @@ pub fn civil_from_days(days: i64) -> Answer<Date> {
     }
 }
 
-pub fn weekday_from_days(days: i64) -> Answer<i64> {
-    day_in_range(days).map_or(Refused(4), |day| Value(day.weekday.into()))
+/// The weekday's number and name.
+pub fn weekday(days: i64) -> Answer<(i64, &'static str)> {
+    day_in_range(days).map_or(Refused(4), |day| Value(WEEKDAYS[usize::from(day.weekday)]))
 }
 
-pub fn is_leap(year: i64) -> Answer<i64> {
+pub fn is_leap(year: i64) -> Answer<bool> {
     match date_refusal(year, 1, 1) {
         Some(refusal) => Refused(refusal),
-        None => Value(leap(year).into()),
+        None => Value(leap(year)),
     }
 }
 
@@ -127,52 +163,52 @@ pub fn last_day_of_month(year: i64, month: i64) -> Answer<i64> {
     }
 }
 
-pub fn day_of_year(year: i64, month: i64, day: i64) -> Answer<i64> {
-    match date_refusal(year, month, day) {
+pub fn day_of_year(date: Date) -> Answer<i64> {
+    match date_refusal(date.year, date.month, date.day) {
         Some(refusal) => Refused(refusal),
         None => {
-            let day = day_in_range(count(year, month, day)).expect("the date is in the range");
+            let day = day_in_range(count(date)).expect("the date is in the range");
             Value(day.day_of_year.into())
         }
     }
 }
 
-pub fn add_days(year: i64, month: i64, day: i64, days: i64) -> Answer<Date> {
-    if let Some(refusal) = date_refusal(year, month, day) {
+pub fn add_days(date: Date, days: i64) -> Answer<Date> {
+    if let Some(refusal) = date_refusal(date.year, date.month, date.day) {
         return Refused(refusal);
     }
-    let sum = i128::from(count(year, month, day)) + i128::from(days);
+    let sum = i128::from(count(date)) + i128::from(days);
     i64::try_from(sum).map_or(Refused(4), civil_from_days)
 }
 
 // Instants
 
-fn instant_in_range(ms: i64) -> bool {
-    (FIRST_INSTANT..=LAST_INSTANT).contains(&ms)
+fn instant_in_range(instant: i64) -> bool {
+    (FIRST_INSTANT..=LAST_INSTANT).contains(&instant)
 }
 
-pub fn day_of_instant(ms: i64) -> Answer<i64> {
-    if instant_in_range(ms) {
-        Value(ms.div_euclid(DAY))
+pub fn day_of_instant(instant: i64) -> Answer<i64> {
+    if instant_in_range(instant) {
+        Value(instant.div_euclid(DAY))
     } else {
         Refused(4)
     }
 }
 
-pub fn split_instant(ms: i64) -> Answer<Fields> {
-    if !instant_in_range(ms) {
+pub fn split_instant(instant: i64) -> Answer<Fields> {
+    if !instant_in_range(instant) {
         return Refused(4);
     }
-    let Date { year, month, day } = civil_from_days(ms.div_euclid(DAY)).value();
-    let rest = ms.rem_euclid(DAY);
+    let Date { year, month, day } = civil_from_days(instant.div_euclid(DAY)).value();
+    let rest = instant.rem_euclid(DAY);
     Value(Fields {
         year,
         month,
         day,
-        hour: rest / 3600000,
-        minute: rest / 60000 % 60,
-        second: rest / 1000 % 60,
-        millisecond: rest % 1000,
+        hour: rest / HOUR,
+        minute: rest / MINUTE % 60,
+        second: rest / SECOND % 60,
+        millisecond: rest % SECOND,
     })
 }
 
@@ -183,33 +219,33 @@ pub fn join_instant(f: Fields) -> Answer<i64> {
     let in_time = (0..24).contains(&f.hour)
         && (0..60).contains(&f.minute)
         && (0..60).contains(&f.second)
-        && (0..1000).contains(&f.millisecond);
+        && (0..SECOND).contains(&f.millisecond);
     if !in_time {
         return Refused(5);
     }
     let seconds = (f.hour * 60 + f.minute) * 60 + f.second;
-    Value(count(f.year, f.month, f.day) * DAY + seconds * 1000 + f.millisecond)
+    Value(count(Date::new(f.year, f.month, f.day)) * DAY + seconds * SECOND + f.millisecond)
 }
 
-pub fn index_days(instants: &[i64], days: &mut [i32]) -> Answer<i64> {
+pub fn index_days(instants: &[i64], days: &mut [i32]) -> Answer<usize> {
     if instants.len() != days.len() {
         return Refused(12);
     }
-    if let Some(place) = instants.iter().position(|&ms| !instant_in_range(ms)) {
+    if let Some(place) = instants.iter().position(|&instant| !instant_in_range(instant)) {
         return RefusedAt(4, place as i64);
     }
-    for (day, ms) in days.iter_mut().zip(instants) {
-        *day = ms.div_euclid(DAY) as i32;
+    for (day, instant) in days.iter_mut().zip(instants) {
+        *day = instant.div_euclid(DAY) as i32;
     }
-    Value(days.len() as i64)
+    Value(days.len())
 }
 
 // Labels
 
 /// The label of an instant in the range.
-pub fn instant_label(ms: i64) -> [u8; 24] {
-    let f = split_instant(ms).value();
-    let mut label = [0; 24];
+pub fn instant_label(instant: i64) -> [u8; LABEL_BYTES] {
+    let f = split_instant(instant).value();
+    let mut label = [0; LABEL_BYTES];
     write!(
         &mut label[..],
         "{:04}-{:02}-{:02}T{:02}:{:02}:{:02}.{:03}Z",
@@ -221,48 +257,49 @@ pub fn instant_label(ms: i64) -> [u8; 24] {
         f.second,
         f.millisecond
     )
-    .expect("24 bytes are enough");
+    .expect("a label has that many bytes");
     label
 }
 
 /// The label of a position from 0 to the last.
-pub fn position_label(ms: i64) -> String {
-    let (hours, minutes, seconds) = (ms / 3600000, ms % 3600000 / 60000, ms % 60000 / 1000);
-    format!("{hours:02}:{minutes:02}:{seconds:02}.{:03}", ms % 1000)
+pub fn position_label(position: i64) -> String {
+    let hours = position / POSITION_HOUR;
+    let minutes = position % POSITION_HOUR / POSITION_MINUTE;
+    let seconds = position % POSITION_MINUTE / POSITION_SECOND;
+    format!("{hours:02}:{minutes:02}:{seconds:02}.{:03}", position % POSITION_SECOND)
 }
 
 /// Writes a label to the front of a buffer, if it is long enough.
-fn put(label: &[u8], out: &mut [u8]) -> Answer<i64> {
+fn put(label: &[u8], out: &mut [u8]) -> Answer<usize> {
     if out.len() < label.len() {
         return Refused(7);
     }
     out[..label.len()].copy_from_slice(label);
-    Value(label.len() as i64)
+    Value(label.len())
 }
 
-pub fn write_instant(ms: i64, out: &mut [u8]) -> Answer<i64> {
-    if instant_in_range(ms) {
-        put(&instant_label(ms), out)
+pub fn write_instant(instant: i64, out: &mut [u8]) -> Answer<usize> {
+    if instant_in_range(instant) {
+        put(&instant_label(instant), out)
     } else {
         Refused(4)
     }
 }
 
-pub fn write_position(ms: i64, out: &mut [u8]) -> Answer<i64> {
-    if (0..=LAST_POSITION).contains(&ms) {
-        put(position_label(ms).as_bytes(), out)
+pub fn write_position(position: i64, out: &mut [u8]) -> Answer<usize> {
+    if (0..=LAST_POSITION).contains(&position) {
+        put(position_label(position).as_bytes(), out)
     } else {
         Refused(6)
     }
 }
 
 pub fn read_instant(label: &[u8]) -> Answer<i64> {
-    let shape = b"dddd-dd-ddTdd:dd:dd.dddZ"; // d for a digit
-    if label.len() != shape.len() {
+    if label.len() != LABEL_BYTES {
         return Refused(8);
     }
     let mut fields = vec![0];
-    for (&byte, &wanted) in label.iter().zip(shape) {
+    for (&byte, &wanted) in label.iter().zip(LABEL_SHAPE) {
         if wanted == b'd' && byte.is_ascii_digit() {
             let field = fields.last_mut().expect("never empty");
             *field = *field * 10 + i64::from(byte - b'0');
@@ -285,18 +322,14 @@ pub fn read_instant(label: &[u8]) -> Answer<i64> {
 
 // Constants on trial
 
-/// The largest search end, which is also the end that document 01's rows mean where they name none.
-pub const LAST_END: i64 = 4294967295;
-pub const LAST_BOUND: i64 = 4294967294;
-
 pub fn allowed(q: Constants) -> bool {
-    (1..=1023).contains(&q.a)
-        && (0..=1023).contains(&q.b)
-        && (1..=1048575).contains(&q.d)
-        && (0..=4294967295).contains(&q.m)
-        && (0..=4294967295).contains(&q.c)
-        && (0..=47).contains(&q.k)
-        && (0..=255).contains(&q.t)
+    (LEAST.a..=LARGEST.a).contains(&q.a)
+        && (LEAST.b..=LARGEST.b).contains(&q.b)
+        && (LEAST.d..=LARGEST.d).contains(&q.d)
+        && (LEAST.m..=LARGEST.m).contains(&q.m)
+        && (LEAST.c..=LARGEST.c).contains(&q.c)
+        && (LEAST.k..=LARGEST.k).contains(&q.k)
+        && (LEAST.t..=LARGEST.t).contains(&q.t)
 }
 
 /// Whether the two quotients of allowed constants are more than t apart at n.
@@ -367,11 +400,20 @@ pub fn search(q: Constants, end: i64, find: fn(Constants, i64) -> Option<i64>) -
     }
 }
 
-/// What a claim is answered, given the least difference at or below its bound.
-pub fn claim(least: Option<i64>, bound: i64) -> Answer<()> {
+/// What a claim with allowed numbers is answered, given the least difference at or below its bound.
+pub fn judged(least: Option<i64>, bound: i64) -> Answer<()> {
     match least {
         Some(n) if n < bound => RefusedAt(10, n),
         Some(n) if n == bound => Value(()),
         _ => Refused(11),
+    }
+}
+
+/// What the claim is answered, given the way to find the least difference below an end.
+pub fn claim(q: Constants, bound: i64, find: fn(Constants, i64) -> Option<i64>) -> Answer<()> {
+    if allowed(q) && (0..=LAST_BOUND).contains(&bound) {
+        judged(find(q, bound + 1), bound)
+    } else {
+        Refused(9)
     }
 }

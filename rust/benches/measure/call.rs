@@ -1,0 +1,190 @@
+//! The shapes of the C calls, so that a line can be measured and compared whatever its call takes and writes.
+
+use ovenquill::{Date, Fields, INSTANT_LABEL_BYTES};
+use std::fmt::Debug;
+
+/// A C call, ours or a rival's.
+pub trait Call: Copy {
+    type Input;
+    /// What the call may write to.
+    type Lent: Debug + PartialEq;
+
+    /// What a call on that input is lent, cleared to what no call writes.
+    fn cleared(input: &Self::Input) -> Self::Lent;
+
+    /// What the call returns.
+    fn call(self, input: &Self::Input, lent: &mut Self::Lent) -> i64;
+
+    /// A number that takes reading what was written.
+    fn sum(lent: &Self::Lent) -> i64;
+}
+
+/// What a number is cleared to: no call writes it.
+const CLEARED: i64 = i64::MIN / 16;
+
+/// A place that a call writes its answer to.
+pub trait Place: Copy + Debug + PartialEq {
+    const CLEARED: Self;
+
+    fn sum(&self) -> i64;
+}
+
+impl Place for i64 {
+    const CLEARED: i64 = CLEARED;
+
+    fn sum(&self) -> i64 {
+        *self
+    }
+}
+
+impl Place for Date {
+    const CLEARED: Date = Date::new(CLEARED, CLEARED, CLEARED);
+
+    fn sum(&self) -> i64 {
+        self.year + self.month + self.day
+    }
+}
+
+impl Place for Fields {
+    const CLEARED: Fields = Fields {
+        year: CLEARED,
+        month: CLEARED,
+        day: CLEARED,
+        hour: CLEARED,
+        minute: CLEARED,
+        second: CLEARED,
+        millisecond: CLEARED,
+    };
+
+    fn sum(&self) -> i64 {
+        self.year + self.month + self.day + self.hour + self.minute + self.second + self.millisecond
+    }
+}
+
+macro_rules! number {
+    ($name:ident) => {
+        i64
+    };
+}
+
+/// Makes two shapes of each list of numbers: a call that takes them and returns its answer, and one that takes a place too.
+macro_rules! calls_of_numbers {
+    ($($returning:ident, $placing:ident: $($name:ident)+;)+) => {$(
+        pub type $returning = unsafe extern "C" fn($(number!($name)),+) -> i64;
+
+        impl Call for $returning {
+            type Input = [i64; [$(stringify!($name)),+].len()];
+            type Lent = ();
+
+            fn cleared(_: &Self::Input) {}
+
+            fn call(self, &[$($name),+]: &Self::Input, _: &mut ()) -> i64 {
+                // SAFETY: the call takes any numbers.
+                unsafe { self($($name),+) }
+            }
+
+            fn sum(_: &()) -> i64 {
+                0
+            }
+        }
+
+        pub type $placing<T> = unsafe extern "C" fn($(number!($name)),+, *mut T) -> i64;
+
+        impl<T: Place> Call for $placing<T> {
+            type Input = [i64; [$(stringify!($name)),+].len()];
+            type Lent = T;
+
+            fn cleared(_: &Self::Input) -> T {
+                T::CLEARED
+            }
+
+            fn call(self, &[$($name),+]: &Self::Input, lent: &mut T) -> i64 {
+                // SAFETY: the place is ours to lend.
+                unsafe { self($($name),+, lent) }
+            }
+
+            fn sum(lent: &T) -> i64 {
+                lent.sum()
+            }
+        }
+    )+};
+}
+
+calls_of_numbers! {
+    One, OneTo: a;
+    Two, TwoTo: a b;
+    Three, ThreeTo: a b c;
+    Four, FourTo: a b c d;
+    Seven, SevenTo: a b c d e f g;
+    Eight, EightTo: a b c d e f g h;
+}
+
+pub type Writer = unsafe extern "C" fn(i64, *mut u8, usize) -> i64;
+
+/// Buffers for labels, none across two cache lines. Each call writes to the next, so that no store waits for the last one.
+#[derive(Debug, PartialEq)]
+#[repr(align(64))]
+pub struct Buffers {
+    buffers: [[u8; 32]; 64],
+    next: usize,
+}
+
+impl Call for Writer {
+    type Input = i64;
+    type Lent = Buffers;
+
+    fn cleared(_: &i64) -> Buffers {
+        Buffers { buffers: [[b'?'; 32]; 64], next: 0 }
+    }
+
+    fn call(self, &number: &i64, lent: &mut Buffers) -> i64 {
+        lent.next = (lent.next + 1) % lent.buffers.len();
+        let out = &mut lent.buffers[lent.next];
+        // SAFETY: the pointer and the length are those of the buffer.
+        unsafe { self(number, out.as_mut_ptr(), out.len()) }
+    }
+
+    fn sum(lent: &Buffers) -> i64 {
+        lent.buffers[lent.next][0].into()
+    }
+}
+
+pub type Reader = unsafe extern "C" fn(*const u8, usize, *mut i64) -> i64;
+
+impl Call for Reader {
+    type Input = [u8; INSTANT_LABEL_BYTES];
+    type Lent = i64;
+
+    fn cleared(_: &Self::Input) -> i64 {
+        CLEARED
+    }
+
+    fn call(self, label: &Self::Input, lent: &mut i64) -> i64 {
+        // SAFETY: the pointer and the length are those of the label, and the place is ours to lend.
+        unsafe { self(label.as_ptr(), label.len(), lent) }
+    }
+
+    fn sum(lent: &i64) -> i64 {
+        *lent
+    }
+}
+
+pub type Index = unsafe extern "C" fn(*const i64, usize, *mut i32, usize, *mut i64) -> i64;
+
+impl Call for Index {
+    type Input = Vec<i64>;
+    type Lent = (Vec<i32>, i64);
+
+    fn cleared(instants: &Vec<i64>) -> (Vec<i32>, i64) {
+        (vec![i32::MIN; instants.len()], CLEARED)
+    }
+
+    fn call(self, instants: &Vec<i64>, (days, place): &mut (Vec<i32>, i64)) -> i64 {
+        // SAFETY: the pointers and the lengths are those of the lists, and the place is ours to lend.
+        unsafe { self(instants.as_ptr(), instants.len(), days.as_mut_ptr(), days.len(), place) }
+    }
+
+    fn sum((days, _): &(Vec<i32>, i64)) -> i64 {
+        days[days.len() / 2].into()
+    }
+}

@@ -1,0 +1,160 @@
+//! The calendar: algorithms 3 and 4 of source document 000, section 6, with ordinary divisions. Years and days are counted
+//! from 400 years before its epoch, 0000-03-01, so that no number is negative.
+
+use super::{returned, to_place};
+use ovenquill::{Date, DAYS, YEARS};
+
+const FIRST_YEAR: i64 = *YEARS.start();
+const LAST_YEAR: i64 = *YEARS.end();
+const FIRST_DAY: i64 = *DAYS.start();
+const LAST_DAY: i64 = *DAYS.end();
+/// From the first count of the computational calendar to 1970-01-01.
+const EPOCH: i64 = 719468 + 146097;
+/// The weekday of 1970-01-01, and a count that is whole weeks before the first day.
+const EPOCH_WEEKDAY: u32 = 4;
+const WEEKS_BEFORE: i64 = 7 * (FIRST_DAY / 7 - 1);
+
+/// A date that is right.
+#[derive(Clone, Copy)]
+pub struct Parts {
+    pub year: u32,
+    pub month: u32,
+    pub day: u32,
+}
+
+/// Algorithm 3. The count is in the range.
+#[inline(always)]
+pub fn date_of(days: i64) -> Parts {
+    let n = (days + EPOCH) as u32;
+    let n_1 = 4 * n + 3;
+    let c = n_1 / 146097;
+    let n_c = n_1 % 146097 / 4;
+    let n_2 = 4 * n_c + 3;
+    let z = n_2 / 1461;
+    let n_y = n_2 % 1461 / 4;
+    let y = 100 * c + z;
+    let n_3 = 5 * n_y + 461;
+    let m = n_3 / 153;
+    let d = n_3 % 153 / 5;
+    let j = u32::from(m >= 13);
+    Parts { year: y + j - 400, month: m - 12 * j, day: d + 1 }
+}
+
+/// Algorithm 4.
+#[inline(always)]
+pub fn days_of(date: Parts) -> i64 {
+    let j = u32::from(date.month <= 2);
+    let y = date.year + 400 - j;
+    let m = date.month + 12 * j;
+    let d = date.day - 1;
+    let c = y / 100;
+    let n = 1461 * y / 4 - c + c / 4 + (153 * m - 457) / 5 + d;
+    i64::from(n) - EPOCH
+}
+
+#[inline(always)]
+fn leap(year: u32) -> bool {
+    year & (if year % 100 == 0 { 15 } else { 3 }) == 0
+}
+
+#[inline(always)]
+pub fn month_length(year: u32, month: u32) -> u32 {
+    if month == 2 {
+        28 + u32::from(leap(year))
+    } else {
+        30 | (month ^ (month >> 3))
+    }
+}
+
+/// The year, or refusal 1.
+#[inline(always)]
+fn checked_year(year: i64) -> Result<u32, i64> {
+    if (FIRST_YEAR..=LAST_YEAR).contains(&year) {
+        Ok(year as u32)
+    } else {
+        Err(1)
+    }
+}
+
+/// The year and the month, or refusal 1 or 2.
+#[inline(always)]
+fn checked_month(year: i64, month: i64) -> Result<(u32, u32), i64> {
+    let year = checked_year(year)?;
+    if (1..=12).contains(&month) {
+        Ok((year, month as u32))
+    } else {
+        Err(2)
+    }
+}
+
+/// The date, or refusal 1, 2 or 3.
+#[inline(always)]
+pub fn checked_date(year: i64, month: i64, day: i64) -> Result<Parts, i64> {
+    let (year, month) = checked_month(year, month)?;
+    if day < 1 || day > i64::from(month_length(year, month)) {
+        return Err(3);
+    }
+    Ok(Parts { year, month, day: day as u32 })
+}
+
+/// The count, or refusal 4.
+#[inline(always)]
+fn checked_count(days: i64) -> Result<i64, i64> {
+    if (FIRST_DAY..=LAST_DAY).contains(&days) {
+        Ok(days)
+    } else {
+        Err(4)
+    }
+}
+
+/// The date of a count, or refusal 4.
+#[inline(always)]
+fn checked_date_of(days: i64) -> Result<Date, i64> {
+    checked_count(days).map(|days| {
+        let Parts { year, month, day } = date_of(days);
+        Date::new(year.into(), month.into(), day.into())
+    })
+}
+
+#[inline(never)]
+pub unsafe extern "C" fn days_from_civil(year: i64, month: i64, day: i64, days: *mut i64) -> i64 {
+    to_place(days, checked_date(year, month, day).map(days_of))
+}
+
+#[inline(never)]
+pub unsafe extern "C" fn civil_from_days(days: i64, date: *mut Date) -> i64 {
+    to_place(date, checked_date_of(days))
+}
+
+#[inline(never)]
+pub unsafe extern "C" fn weekday(days: i64) -> i64 {
+    returned(checked_count(days).map(|days| (((days - WEEKS_BEFORE) as u32 + EPOCH_WEEKDAY) % 7).into()))
+}
+
+#[inline(never)]
+pub unsafe extern "C" fn is_leap(year: i64) -> i64 {
+    returned(checked_year(year).map(|year| leap(year).into()))
+}
+
+#[inline(never)]
+pub unsafe extern "C" fn last_day_of_month(year: i64, month: i64) -> i64 {
+    returned(checked_month(year, month).map(|(year, month)| month_length(year, month).into()))
+}
+
+static DAYS_BEFORE: [u16; 13] = [0, 0, 31, 59, 90, 120, 151, 181, 212, 243, 273, 304, 334];
+
+#[inline(never)]
+pub unsafe extern "C" fn day_of_year(year: i64, month: i64, day: i64) -> i64 {
+    returned(checked_date(year, month, day).map(|date| {
+        let leap_day = u32::from(date.month > 2 && leap(date.year));
+        (u32::from(DAYS_BEFORE[date.month as usize]) + leap_day + date.day).into()
+    }))
+}
+
+#[inline(never)]
+pub unsafe extern "C" fn add_days(year: i64, month: i64, day: i64, days: i64, date: *mut Date) -> i64 {
+    let shifted = checked_date(year, month, day)
+        .and_then(|from| days_of(from).checked_add(days).ok_or(4))
+        .and_then(checked_date_of);
+    to_place(date, shifted)
+}

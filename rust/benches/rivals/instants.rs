@@ -1,0 +1,94 @@
+//! Instants: `div_euclid` and `rem_euclid`, with the same refusals.
+
+use super::calendar::{checked_date, date_of, days_of, Parts};
+use super::to_place;
+use core::slice;
+use ovenquill::{Fields, INSTANTS};
+
+pub const SECOND: i64 = 1000;
+pub const MINUTE: i64 = 60 * SECOND;
+pub const HOUR: i64 = 60 * MINUTE;
+pub const DAY: i64 = 24 * HOUR;
+
+/// The instant, or refusal 4.
+#[inline(always)]
+pub fn checked(instant: i64) -> Result<i64, i64> {
+    if (*INSTANTS.start()..=*INSTANTS.end()).contains(&instant) {
+        Ok(instant)
+    } else {
+        Err(4)
+    }
+}
+
+/// The instant of a date and a time of day that are right.
+#[inline(always)]
+pub fn joined(date: Parts, hour: u32, minute: u32, second: u32, millisecond: u32) -> i64 {
+    let time = ((hour * 60 + minute) * 60 + second) * SECOND as u32 + millisecond;
+    days_of(date) * DAY + i64::from(time)
+}
+
+#[inline(never)]
+pub unsafe extern "C" fn day_of_instant(instant: i64, days: *mut i64) -> i64 {
+    to_place(days, checked(instant).map(|instant| instant.div_euclid(DAY)))
+}
+
+#[inline(never)]
+pub unsafe extern "C" fn split_instant(instant: i64, fields: *mut Fields) -> i64 {
+    let split = checked(instant).map(|instant| {
+        let date = date_of(instant.div_euclid(DAY));
+        let rest = instant.rem_euclid(DAY) as u32;
+        let seconds = rest / SECOND as u32;
+        Fields {
+            year: date.year.into(),
+            month: date.month.into(),
+            day: date.day.into(),
+            hour: (seconds / 3600).into(),
+            minute: (seconds / 60 % 60).into(),
+            second: (seconds % 60).into(),
+            millisecond: (rest % SECOND as u32).into(),
+        }
+    });
+    to_place(fields, split)
+}
+
+#[inline(never)]
+pub unsafe extern "C" fn join_instant(
+    year: i64,
+    month: i64,
+    day: i64,
+    hour: i64,
+    minute: i64,
+    second: i64,
+    millisecond: i64,
+    instant: *mut i64,
+) -> i64 {
+    let in_time = (0..24).contains(&hour)
+        && (0..60).contains(&minute)
+        && (0..60).contains(&second)
+        && (0..SECOND).contains(&millisecond);
+    let fields = checked_date(year, month, day).and_then(|date| if in_time { Ok(date) } else { Err(5) });
+    to_place(instant, fields.map(|date| joined(date, hour as u32, minute as u32, second as u32, millisecond as u32)))
+}
+
+#[inline(never)]
+pub unsafe extern "C" fn index_days(
+    instants: *const i64,
+    count: usize,
+    days: *mut i32,
+    days_length: usize,
+    place: *mut i64,
+) -> i64 {
+    let instants = slice::from_raw_parts(instants, count);
+    let days = slice::from_raw_parts_mut(days, days_length);
+    if instants.len() != days.len() {
+        return -12;
+    }
+    if let Some(bad) = instants.iter().position(|&instant| checked(instant).is_err()) {
+        place.write(bad as i64);
+        return -4;
+    }
+    for (day, instant) in days.iter_mut().zip(instants) {
+        *day = instant.div_euclid(DAY) as i32;
+    }
+    days.len() as i64
+}

@@ -1,0 +1,145 @@
+//! Labels: two digits at a time, from a table or by a division.
+
+use super::calendar::{date_of, month_length, Parts};
+use super::instants::{checked, joined, DAY, HOUR};
+use super::to_place;
+use core::slice;
+use ovenquill::{INSTANT_LABEL_BYTES, POSITIONS};
+
+static PAIRS: [[u8; 2]; 100] = {
+    let mut pairs = [[0; 2]; 100];
+    let mut n = 0;
+    while n < 100 {
+        pairs[n] = [b'0' + (n / 10) as u8, b'0' + (n % 10) as u8];
+        n += 1;
+    }
+    pairs
+};
+
+/// Two digits of a number below 100.
+#[inline(always)]
+unsafe fn put_pair<const TABLE: bool>(out: *mut u8, n: u32) {
+    if TABLE {
+        out.cast::<[u8; 2]>().write(*PAIRS.get_unchecked(n as usize));
+    } else {
+        *out = b'0' + (n / 10) as u8;
+        *out.add(1) = b'0' + (n % 10) as u8;
+    }
+}
+
+/// `MM:SS.mmm` of a number of milliseconds below an hour.
+#[inline(always)]
+unsafe fn put_minutes<const TABLE: bool>(out: *mut u8, rest: u32) {
+    let seconds = rest / 1000;
+    let millisecond = rest % 1000;
+    put_pair::<TABLE>(out, seconds / 60);
+    *out.add(2) = b':';
+    put_pair::<TABLE>(out.add(3), seconds % 60);
+    *out.add(5) = b'.';
+    *out.add(6) = b'0' + (millisecond / 100) as u8;
+    put_pair::<TABLE>(out.add(7), millisecond % 100);
+}
+
+#[inline(never)]
+pub unsafe extern "C" fn write_instant<const TABLE: bool>(instant: i64, out: *mut u8, length: usize) -> i64 {
+    if let Err(refusal) = checked(instant) {
+        return -refusal;
+    }
+    if length < INSTANT_LABEL_BYTES {
+        return -7;
+    }
+    let date = date_of(instant.div_euclid(DAY));
+    let rest = instant.rem_euclid(DAY) as u32;
+    put_pair::<TABLE>(out, date.year / 100);
+    put_pair::<TABLE>(out.add(2), date.year % 100);
+    *out.add(4) = b'-';
+    put_pair::<TABLE>(out.add(5), date.month);
+    *out.add(7) = b'-';
+    put_pair::<TABLE>(out.add(8), date.day);
+    *out.add(10) = b'T';
+    put_pair::<TABLE>(out.add(11), rest / HOUR as u32);
+    *out.add(13) = b':';
+    put_minutes::<TABLE>(out.add(14), rest % HOUR as u32);
+    *out.add(23) = b'Z';
+    INSTANT_LABEL_BYTES as i64
+}
+
+/// An hour of a position, in milliseconds.
+pub const POSITION_HOUR: i64 = 3600000;
+
+#[inline(never)]
+pub unsafe extern "C" fn write_position<const TABLE: bool>(position: i64, out: *mut u8, length: usize) -> i64 {
+    if !(*POSITIONS.start()..=*POSITIONS.end()).contains(&position) {
+        return -6;
+    }
+    let hours = (position as u64 / POSITION_HOUR as u64) as u32;
+    let rest = (position as u64 % POSITION_HOUR as u64) as u32;
+    let digits = match hours {
+        0..=99 => 2,
+        100..=999 => 3,
+        1000..=9999 => 4,
+        _ => 5,
+    };
+    if length < digits + 10 {
+        return -7;
+    }
+    match digits {
+        2 => put_pair::<TABLE>(out, hours),
+        3 => {
+            *out = b'0' + (hours / 100) as u8;
+            put_pair::<TABLE>(out.add(1), hours % 100);
+        }
+        4 => {
+            put_pair::<TABLE>(out, hours / 100);
+            put_pair::<TABLE>(out.add(2), hours % 100);
+        }
+        _ => {
+            *out = b'0' + (hours / 10000) as u8;
+            put_pair::<TABLE>(out.add(1), hours / 100 % 100);
+            put_pair::<TABLE>(out.add(3), hours % 100);
+        }
+    }
+    *out.add(digits) = b':';
+    put_minutes::<TABLE>(out.add(digits + 1), rest);
+    digits as i64 + 10
+}
+
+/// The shape of a label: 0 where a digit stands, else the mark.
+const SHAPE: [u8; INSTANT_LABEL_BYTES] = *b"\0\0\0\0-\0\0-\0\0T\0\0:\0\0:\0\0.\0\0\0Z";
+
+/// The instant of a label, or a refusal.
+#[inline(always)]
+fn read(label: &[u8]) -> Result<i64, i64> {
+    let Ok(label) = <&[u8; INSTANT_LABEL_BYTES]>::try_from(label) else { return Err(8) };
+    // Every byte is tested without a branch, in a form that the compiler turns into vector code.
+    let mut wrong = 0;
+    for place in 0..INSTANT_LABEL_BYTES {
+        let digit = u8::from(label[place].wrapping_sub(b'0') > 9);
+        let mark = label[place] ^ SHAPE[place];
+        wrong |= if SHAPE[place] == 0 { digit } else { mark };
+    }
+    if wrong != 0 {
+        return Err(8);
+    }
+    let digit = |place: usize| u32::from(label[place] - b'0');
+    let pair = |place: usize| digit(place) * 10 + digit(place + 1);
+    let year = pair(0) * 100 + pair(2);
+    let (month, day) = (pair(5), pair(8));
+    let (hour, minute, second) = (pair(11), pair(14), pair(17));
+    let millisecond = digit(20) * 100 + pair(21);
+    if !(1..=12).contains(&month) {
+        return Err(2);
+    }
+    if day < 1 || day > month_length(year, month) {
+        return Err(3);
+    }
+    if hour > 23 || minute > 59 || second > 59 {
+        return Err(5);
+    }
+    Ok(joined(Parts { year, month, day }, hour, minute, second, millisecond))
+}
+
+#[inline(never)]
+pub unsafe extern "C" fn read_instant(label: *const u8, length: usize, instant: *mut i64) -> i64 {
+    to_place(instant, read(slice::from_raw_parts(label, length)))
+}

@@ -1,0 +1,249 @@
+//! Labels: the RFC 3339 form of instants and the WebVTT form of positions.
+
+use crate::raw;
+use crate::refusal::{counted, placed, Refusal};
+use core::fmt;
+use core::ops::RangeInclusive;
+use core::str::{self, FromStr};
+
+/// The form of an instant label.
+pub(crate) const INSTANT_LABEL_FORM: &str = "YYYY-MM-DDTHH:MM:SS.mmmZ";
+
+/// The bytes of an instant label.
+pub const INSTANT_LABEL_BYTES: usize = INSTANT_LABEL_FORM.len();
+
+/// The first and the last position, in milliseconds.
+///
+/// ```
+/// use ovenquill::{position_label, POSITIONS};
+///
+/// assert_eq!(position_label(*POSITIONS.start()).unwrap(), "00:00:00.000");
+/// assert_eq!(position_label(*POSITIONS.end()).unwrap(), "99999:59:59.999");
+/// ```
+pub const POSITIONS: RangeInclusive<i64> = 0..=359999999999;
+
+/// The bytes of the longest position label.
+pub const POSITION_LABEL_BYTES: usize = 15;
+
+/// Writes the label of an instant, `YYYY-MM-DDTHH:MM:SS.mmmZ`, to the front of a buffer and answers its length. The bytes
+/// behind it are unchanged.
+///
+/// Refused are an instant outside [`INSTANTS`](crate::INSTANTS) ([`Refusal::OutOfRange`]) and then a buffer of fewer than
+/// [`INSTANT_LABEL_BYTES`] ([`Refusal::BufferTooShort`]).
+///
+/// ```
+/// use ovenquill::{write_instant, Refusal};
+///
+/// let mut buffer = [b'.'; 26];
+/// assert_eq!(write_instant(-1, &mut buffer), Ok(24));
+/// assert_eq!(&buffer, b"1969-12-31T23:59:59.999Z..");
+/// assert_eq!(write_instant(0, &mut buffer[..23]), Err(Refusal::BufferTooShort));
+/// assert_eq!(&buffer, b"1969-12-31T23:59:59.999Z..");
+/// ```
+#[inline]
+pub fn write_instant(instant: i64, out: &mut [u8]) -> Result<usize, Refusal> {
+    // SAFETY: the pointer and the length are those of one slice that is ours to lend.
+    counted(unsafe { raw::ovenquill_write_instant(instant, out.as_mut_ptr(), out.len()) })
+}
+
+/// The instant of a label.
+///
+/// Refused are, in this order, bytes that are no label ([`Refusal::MalformedLabel`]), a month or a day that is none
+/// ([`Refusal::MonthOutOfRange`], [`Refusal::DayOutOfRange`]) and a time that no day has ([`Refusal::TimeOutOfRange`]).
+///
+/// ```
+/// use ovenquill::{read_instant, Refusal};
+///
+/// assert_eq!(read_instant(b"2023-05-10T14:30:00.000Z"), Ok(1683729000000));
+/// assert_eq!(read_instant(b"2023-05-10 14:30:00.000Z"), Err(Refusal::MalformedLabel));
+/// assert_eq!(read_instant(b"2016-12-31T23:59:60.000Z"), Err(Refusal::TimeOutOfRange));
+/// ```
+#[inline]
+pub fn read_instant(label: &[u8]) -> Result<i64, Refusal> {
+    // SAFETY: the pointer and the length are those of one slice, and the place is ours to lend.
+    placed(0, |instant| unsafe { raw::ovenquill_read_instant(label.as_ptr(), label.len(), instant) })
+}
+
+/// Writes the label of a position, hours and `:MM:SS.mmm`, to the front of a buffer and answers its length. The bytes
+/// behind it are unchanged.
+///
+/// Refused are a position outside [`POSITIONS`] ([`Refusal::PositionOutOfRange`]) and then a buffer shorter than its label
+/// ([`Refusal::BufferTooShort`]); [`POSITION_LABEL_BYTES`] are enough for any.
+///
+/// ```
+/// use ovenquill::{write_position, Refusal};
+///
+/// let mut buffer = [b'.'; 15];
+/// assert_eq!(write_position(4287767296, &mut buffer), Ok(14));
+/// assert_eq!(&buffer, b"1191:02:47.296.");
+/// assert_eq!(write_position(4287767296, &mut buffer[..13]), Err(Refusal::BufferTooShort));
+/// assert_eq!(write_position(-1, &mut buffer), Err(Refusal::PositionOutOfRange));
+/// ```
+#[inline]
+pub fn write_position(position: i64, out: &mut [u8]) -> Result<usize, Refusal> {
+    // SAFETY: the pointer and the length are those of one slice that is ours to lend.
+    counted(unsafe { raw::ovenquill_write_position(position, out.as_mut_ptr(), out.len()) })
+}
+
+/// Makes a type of labels, which are held by value in so many bytes at most.
+macro_rules! label_type {
+    ($(#[$doc:meta])+ $name:ident, $bytes:expr) => {
+        $(#[$doc])+
+        // The length stands first: a longer label is the later one. The bytes behind a label are zeros.
+        #[derive(Clone, Copy, PartialEq, Eq, PartialOrd, Ord, Hash)]
+        pub struct $name {
+            length: usize,
+            bytes: [u8; $bytes],
+        }
+
+        impl $name {
+            /// The label that a call writes.
+            fn written(call: impl FnOnce(&mut [u8]) -> Result<usize, Refusal>) -> Result<$name, Refusal> {
+                let mut bytes = [0; $bytes];
+                call(&mut bytes).map(|length| $name { length, bytes })
+            }
+
+            /// The label's bytes.
+            pub fn as_bytes(&self) -> &[u8] {
+                self.bytes.get(..self.length).unwrap_or(&self.bytes)
+            }
+
+            /// The label's text.
+            pub fn as_str(&self) -> &str {
+                str::from_utf8(self.as_bytes()).unwrap_or_default()
+            }
+        }
+
+        impl AsRef<str> for $name {
+            fn as_ref(&self) -> &str {
+                self.as_str()
+            }
+        }
+
+        impl AsRef<[u8]> for $name {
+            fn as_ref(&self) -> &[u8] {
+                self.as_bytes()
+            }
+        }
+
+        impl fmt::Display for $name {
+            fn fmt(&self, f: &mut fmt::Formatter<'_>) -> fmt::Result {
+                f.pad(self.as_str())
+            }
+        }
+
+        impl fmt::Debug for $name {
+            fn fmt(&self, f: &mut fmt::Formatter<'_>) -> fmt::Result {
+                f.debug_tuple(stringify!($name)).field(&self.as_str()).finish()
+            }
+        }
+
+        impl PartialEq<str> for $name {
+            fn eq(&self, other: &str) -> bool {
+                self.as_str() == other
+            }
+        }
+
+        impl PartialEq<&str> for $name {
+            fn eq(&self, other: &&str) -> bool {
+                self.as_str() == *other
+            }
+        }
+
+        impl PartialEq<$name> for str {
+            fn eq(&self, other: &$name) -> bool {
+                self == other.as_str()
+            }
+        }
+
+        impl PartialEq<$name> for &str {
+            fn eq(&self, other: &$name) -> bool {
+                *self == other.as_str()
+            }
+        }
+    };
+}
+
+label_type! {
+    /// The label of an instant. The order of labels is that of their instants.
+    ///
+    /// [`instant_label`] makes one of an instant. One is read from text with [`str::parse`] and from bytes with
+    /// [`TryFrom`], which refuse what [`read_instant`] refuses.
+    ///
+    /// ```
+    /// use ovenquill::{instant_label, read_instant, InstantLabel, Refusal};
+    ///
+    /// let label = instant_label(1683729000000)?;
+    /// assert_eq!(label, "2023-05-10T14:30:00.000Z");
+    /// assert_eq!(label.to_string(), label.as_str());
+    /// assert_eq!(read_instant(label.as_ref())?, 1683729000000);
+    ///
+    /// let read: InstantLabel = "2023-05-10T14:30:00.001Z".parse()?;
+    /// assert!(label < read);
+    /// assert_eq!("2023-05-10".parse::<InstantLabel>(), Err(Refusal::MalformedLabel));
+    /// # Ok::<(), Refusal>(())
+    /// ```
+    InstantLabel, INSTANT_LABEL_BYTES
+}
+
+label_type! {
+    /// The label of a position. The order of labels is that of their positions.
+    ///
+    /// ```
+    /// use ovenquill::{position_label, Refusal};
+    ///
+    /// let (long, short) = (position_label(360000000)?, position_label(359999999)?);
+    /// assert_eq!((long.as_str(), short.as_str()), ("100:00:00.000", "99:59:59.999"));
+    /// assert!(long > short);
+    /// # Ok::<(), Refusal>(())
+    /// ```
+    PositionLabel, POSITION_LABEL_BYTES
+}
+
+impl FromStr for InstantLabel {
+    type Err = Refusal;
+
+    fn from_str(text: &str) -> Result<InstantLabel, Refusal> {
+        InstantLabel::try_from(text.as_bytes())
+    }
+}
+
+impl TryFrom<&[u8]> for InstantLabel {
+    type Error = Refusal;
+
+    fn try_from(label: &[u8]) -> Result<InstantLabel, Refusal> {
+        instant_label(read_instant(label)?)
+    }
+}
+
+/// The label of an instant, by value.
+///
+/// Refused is an instant outside [`INSTANTS`](crate::INSTANTS) ([`Refusal::OutOfRange`]).
+///
+/// ```
+/// use ovenquill::{instant_label, Refusal};
+///
+/// assert_eq!(instant_label(-1)?, "1969-12-31T23:59:59.999Z");
+/// assert_eq!(instant_label(i64::MAX), Err(Refusal::OutOfRange));
+/// # Ok::<(), Refusal>(())
+/// ```
+#[inline]
+pub fn instant_label(instant: i64) -> Result<InstantLabel, Refusal> {
+    InstantLabel::written(|out| write_instant(instant, out))
+}
+
+/// The label of a position, by value.
+///
+/// Refused is a position outside [`POSITIONS`] ([`Refusal::PositionOutOfRange`]).
+///
+/// ```
+/// use ovenquill::{position_label, Refusal};
+///
+/// assert_eq!(position_label(4287767296)?, "1191:02:47.296");
+/// assert_eq!(position_label(-1), Err(Refusal::PositionOutOfRange));
+/// # Ok::<(), Refusal>(())
+/// ```
+#[inline]
+pub fn position_label(position: i64) -> Result<PositionLabel, Refusal> {
+    PositionLabel::written(|out| write_position(position, out))
+}

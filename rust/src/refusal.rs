@@ -1,0 +1,176 @@
+//! The numbered refusals, and how a call's answer is told from one.
+
+use crate::calendar::{MONTHS, YEARS};
+use crate::instant::{DAY, HOUR, MINUTE, SECOND};
+use crate::labels::{INSTANT_LABEL_BYTES, INSTANT_LABEL_FORM, POSITIONS};
+use core::error::Error;
+use core::fmt;
+
+/// Makes [`Refusal`] of a list that has each refusal once: its meaning, its name, its number and its words.
+macro_rules! refusals {
+    ($($(#[$meaning:meta])+ $name:ident = $number:literal, ($($words:tt)+);)+) => {
+        /// Why a call was refused.
+        ///
+        /// Each is given exactly when its cause holds and no cause before it in the call's order does; each call says its
+        /// order. A refused call changes nothing that was lent to it.
+        ///
+        /// ```
+        /// use ovenquill::{days_from_civil, Date, Refusal};
+        ///
+        /// let refusal = days_from_civil(Date::new(2023, 13, 99)).unwrap_err();
+        /// assert_eq!(refusal, Refusal::MonthOutOfRange);
+        /// assert_eq!(refusal.number(), 2);
+        /// assert_eq!(refusal.to_string(), "month outside 1 to 12");
+        /// ```
+        #[derive(Clone, Copy, Debug, PartialEq, Eq, Hash)]
+        #[non_exhaustive]
+        pub enum Refusal {
+            $($(#[$meaning])+ $name,)+
+            /// An answer that the calls' contracts do not allow, negated: the archive that was linked is not the one that
+            /// this package was made for.
+            #[non_exhaustive]
+            Unknown(i64),
+        }
+
+        impl Refusal {
+            /// Every refusal that has a number of its own, in the order of the numbers.
+            ///
+            /// ```
+            /// use ovenquill::Refusal;
+            ///
+            /// for refusal in Refusal::ALL {
+            ///     println!("{}: {refusal}", refusal.number());
+            /// }
+            /// # assert!(Refusal::ALL.windows(2).all(|pair| pair[0].number() < pair[1].number()));
+            /// ```
+            pub const ALL: &'static [Refusal] = &[$(Refusal::$name),+];
+
+            /// The refusal's number, which the C interface answers negated.
+            ///
+            /// ```
+            /// assert_eq!(ovenquill::Refusal::UnequalLengths.number(), 12);
+            /// ```
+            pub const fn number(self) -> i64 {
+                match self {
+                    $(Refusal::$name => $number,)+
+                    Refusal::Unknown(number) => number,
+                }
+            }
+
+            /// The refusal that has a number.
+            ///
+            /// ```
+            /// use ovenquill::Refusal;
+            ///
+            /// assert_eq!(Refusal::from_number(7), Some(Refusal::BufferTooShort));
+            /// assert_eq!(Refusal::from_number(0), None);
+            /// ```
+            pub const fn from_number(number: i64) -> Option<Refusal> {
+                match number {
+                    $($number => Some(Refusal::$name),)+
+                    _ => None,
+                }
+            }
+        }
+
+        impl fmt::Display for Refusal {
+            fn fmt(&self, f: &mut fmt::Formatter<'_>) -> fmt::Result {
+                match self {
+                    $(Refusal::$name => write!(f, $($words)+),)+
+                    Refusal::Unknown(number) => write!(f, "refusal {number}, which this version does not know"),
+                }
+            }
+        }
+    };
+}
+
+refusals! {
+    /// A year outside [`YEARS`].
+    YearOutOfRange = 1, ("year outside {} to {}", YEARS.start(), YEARS.end());
+    /// A month outside [`MONTHS`].
+    MonthOutOfRange = 2, ("month outside {} to {}", MONTHS.start(), MONTHS.end());
+    /// A day that its month does not have.
+    DayOutOfRange = 3, ("day outside 1 to the length of its month");
+    /// A count outside [`DAYS`](crate::DAYS), an instant outside [`INSTANTS`](crate::INSTANTS), or a shifted date that is
+    /// outside the range of dates.
+    OutOfRange = 4, ("day count, instant or shifted date outside the years {} to {}", YEARS.start(), YEARS.end());
+    /// An hour, minute, second or millisecond that no day has. Second 60 is one.
+    TimeOutOfRange = 5, (
+        "hour outside 0 to {}, minute or second outside 0 to {}, or millisecond outside 0 to {}",
+        DAY / HOUR - 1,
+        HOUR / MINUTE - 1,
+        SECOND - 1
+    );
+    /// A position outside [`POSITIONS`].
+    PositionOutOfRange = 6, ("position outside {} to {} milliseconds", POSITIONS.start(), POSITIONS.end());
+    /// A buffer with fewer bytes than the label.
+    BufferTooShort = 7, ("buffer shorter than the label");
+    /// A label of another length or shape than the writer's.
+    MalformedLabel = 8, ("not a label of {INSTANT_LABEL_BYTES} bytes in the form {INSTANT_LABEL_FORM}");
+    /// A constant outside [`Constants::LEAST`](crate::Constants::LEAST) and
+    /// [`Constants::LARGEST`](crate::Constants::LARGEST), an end outside [`SEARCH_ENDS`](crate::SEARCH_ENDS) or a bound
+    /// outside [`CLAIM_BOUNDS`](crate::CLAIM_BOUNDS).
+    ConstantOutOfLimits = 9, ("constant, search end or claimed bound outside its limits");
+    /// The quotients differ at an input below the claimed bound.
+    DifferenceBelowBound = 10, ("claim: a difference stands below the bound");
+    /// The quotients differ at no input up to the claimed bound.
+    NoDifferenceUpToBound = 11, ("claim: no difference at or below the bound");
+    /// An index's two lists are of unequal length.
+    UnequalLengths = 12, ("index lists of unequal length");
+}
+
+impl Error for Refusal {}
+
+impl Refusal {
+    /// The refusal that a call answered.
+    pub(crate) const fn of(answer: i64) -> Refusal {
+        let number = answer.wrapping_neg();
+        match Refusal::from_number(number) {
+            Some(refusal) => refusal,
+            None => Refusal::Unknown(number),
+        }
+    }
+}
+
+/// What a call answered that returns its value.
+pub(crate) fn returned(answer: i64) -> Result<i64, Refusal> {
+    if answer < 0 {
+        Err(Refusal::of(answer))
+    } else {
+        Ok(answer)
+    }
+}
+
+/// What a call answered that returns how much it wrote.
+pub(crate) fn counted(answer: i64) -> Result<usize, Refusal> {
+    usize::try_from(answer).map_err(|_| Refusal::of(answer))
+}
+
+/// What a call wrote to the place that it was lent, if it returned 0. The place's value before the call doesn't matter.
+pub(crate) fn placed<T>(mut place: T, call: impl FnOnce(&mut T) -> i64) -> Result<T, Refusal> {
+    match call(&mut place) {
+        0 => Ok(place),
+        answer => Err(Refusal::of(answer)),
+    }
+}
+
+#[cfg(test)]
+mod tests {
+    extern crate std;
+
+    use super::Refusal;
+    use std::string::ToString;
+
+    #[test]
+    fn every_answer_below_or_above_zero_is_some_refusal() {
+        for &refusal in Refusal::ALL {
+            assert_eq!(Refusal::of(-refusal.number()), refusal);
+        }
+        for answer in [i64::MIN, -1000, -13, 1, 4, 12, i64::MAX] {
+            let refusal = Refusal::of(answer);
+            assert!(!Refusal::ALL.contains(&refusal));
+            assert_eq!(refusal.number(), answer.wrapping_neg());
+        }
+        assert_eq!(Refusal::of(-13).to_string(), "refusal 13, which this version does not know");
+    }
+}

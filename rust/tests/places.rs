@@ -1,0 +1,249 @@
+//! The C calls themselves: what each returns, and what it leaves in the places and slices that it is lent. Every place
+//! stands among guard numbers and holds a number of its own before the call, which a refusal must leave there.
+
+mod support;
+
+use ovenquill::{raw, Constants, Date, Fields};
+use std::fmt::Debug;
+use std::ptr;
+use support::answer::Answer::{self, Refused, RefusedAt, Value};
+use support::plain::{self, FIRST_DAY, FIRST_INSTANT, FIRST_YEAR, LARGEST, LAST_DAY, LAST_INSTANT, LAST_YEAR, SECOND};
+use support::random::Random;
+
+const GUARD: i64 = 0x5afe_c0de_5afe_c0de;
+/// What a place holds before a call.
+const BEFORE: i64 = -0x0123_4567_89ab_cdef;
+const DATE_BEFORE: Date = Date { year: BEFORE, month: BEFORE + 1, day: BEFORE + 2 };
+const FIELDS_BEFORE: Fields = Fields {
+    year: BEFORE,
+    month: BEFORE + 1,
+    day: BEFORE + 2,
+    hour: BEFORE + 3,
+    minute: BEFORE + 4,
+    second: BEFORE + 5,
+    millisecond: BEFORE + 6,
+};
+
+/// A place among guard numbers.
+#[repr(C)]
+struct Guarded<T> {
+    ahead: [i64; 8],
+    place: T,
+    behind: [i64; 8],
+}
+
+/// Lends the call a place; answers what it returned and what the place holds then.
+fn lend<T>(before: T, call: impl FnOnce(*mut T) -> i64) -> (i64, T) {
+    let mut lent = Guarded { ahead: [GUARD; 8], place: before, behind: [GUARD; 8] };
+    let returned = call(&mut lent.place);
+    assert_eq!((lent.ahead, lent.behind), ([GUARD; 8], [GUARD; 8]), "written beside the place");
+    (returned, lent.place)
+}
+
+/// Holds a call that writes its answer to a place to the plain one's answer.
+fn try_place<T: Copy + Debug + PartialEq>(expected: Answer<T>, before: T, call: impl FnOnce(*mut T) -> i64) {
+    let wanted = match expected {
+        Value(value) => (0, value),
+        Refused(number) | RefusedAt(number, _) => (-number, before),
+    };
+    assert_eq!(lend(before, call), wanted);
+}
+
+/// What a call returns that has no place.
+fn returned(expected: Answer<i64>) -> i64 {
+    match expected {
+        Value(value) => value,
+        Refused(number) | RefusedAt(number, _) => -number,
+    }
+}
+
+/// As often a number from first to last as one of the others.
+fn some(random: &mut Random, first: i64, last: i64) -> i64 {
+    let inside = random.within(first, last);
+    let choices = [inside, inside, inside, inside, first, last, first - 1, last + 1, random.next() as i64];
+    random.choose(&choices)
+}
+
+fn some_date(random: &mut Random) -> Date {
+    Date::new(some(random, FIRST_YEAR, LAST_YEAR), some(random, 1, 12), some(random, 1, 31))
+}
+
+// SAFETY of every block below: each pointer is to a place, or to a slice of that length, that is ours to lend.
+
+#[test]
+fn calls_about_counts() {
+    let mut random = Random::new(24);
+    for _ in 0..300_000 {
+        let days = some(&mut random, FIRST_DAY, LAST_DAY);
+        let date = plain::civil_from_days(days);
+        try_place(date, DATE_BEFORE, |date| unsafe { raw::ovenquill_civil_from_days(days, date) });
+        let number = match plain::weekday(days) {
+            Value((number, _)) => number,
+            refused => -refused_number(refused),
+        };
+        assert_eq!(unsafe { raw::ovenquill_weekday(days) }, number, "{days}");
+    }
+}
+
+fn refused_number<T: Debug>(answer: Answer<T>) -> i64 {
+    match answer {
+        Refused(number) => number,
+        other => panic!("not refused by its number alone: {other:?}"),
+    }
+}
+
+#[test]
+fn calls_about_dates() {
+    let mut random = Random::new(25);
+    for _ in 0..300_000 {
+        let date = some_date(&mut random);
+        let Date { year, month, day } = date;
+        try_place(plain::days_from_civil(date), BEFORE, |days| unsafe {
+            raw::ovenquill_days_from_civil(year, month, day, days)
+        });
+        let shift = some(&mut random, FIRST_DAY, LAST_DAY);
+        try_place(plain::add_days(date, shift), DATE_BEFORE, |date| unsafe {
+            raw::ovenquill_add_days(year, month, day, shift, date)
+        });
+        let leap = match plain::is_leap(year) {
+            Value(leap) => i64::from(leap),
+            refused => -refused_number(refused),
+        };
+        assert_eq!(unsafe { raw::ovenquill_is_leap(year) }, leap, "{year}");
+        let length = returned(plain::last_day_of_month(year, month));
+        assert_eq!(unsafe { raw::ovenquill_last_day_of_month(year, month) }, length, "{year} {month}");
+        let day_of_year = returned(plain::day_of_year(date));
+        assert_eq!(unsafe { raw::ovenquill_day_of_year(year, month, day) }, day_of_year, "{date:?}");
+    }
+}
+
+#[test]
+fn calls_about_instants() {
+    let mut random = Random::new(26);
+    for _ in 0..300_000 {
+        let instant = some(&mut random, FIRST_INSTANT, LAST_INSTANT);
+        try_place(plain::day_of_instant(instant), BEFORE, |days| unsafe {
+            raw::ovenquill_day_of_instant(instant, days)
+        });
+        try_place(plain::split_instant(instant), FIELDS_BEFORE, |fields| unsafe {
+            raw::ovenquill_split_instant(instant, fields)
+        });
+        let Date { year, month, day } = some_date(&mut random);
+        let [hour, minute, second] = [23, 59, 59].map(|last| some(&mut random, 0, last));
+        let millisecond = some(&mut random, 0, SECOND - 1);
+        let joined = plain::join_instant(Fields { year, month, day, hour, minute, second, millisecond });
+        try_place(joined, BEFORE, |instant| unsafe {
+            raw::ovenquill_join_instant(year, month, day, hour, minute, second, millisecond, instant)
+        });
+    }
+}
+
+#[test]
+fn the_index_writes_a_place_only_for_a_bad_instant() {
+    let mut random = Random::new(27);
+    let mut seen = [0; 3];
+    for _ in 0..100_000 {
+        let count = random.within(0, 6) as usize;
+        let instants: Vec<i64> = (0..count).map(|_| random.within(FIRST_INSTANT, LAST_INSTANT)).collect();
+        let bad = [FIRST_INSTANT - 1, LAST_INSTANT + 1, i64::MIN, i64::MAX];
+        let instants: Vec<i64> =
+            instants.iter().map(|&good| if random.within(0, 5) == 0 { random.choose(&bad) } else { good }).collect();
+        let days_length = if random.within(0, 3) == 0 { random.within(0, 6) as usize } else { count };
+        let mut days = vec![7; days_length];
+        let mut expected_days = days.clone();
+        let wanted = match plain::index_days(&instants, &mut expected_days) {
+            Value(written) => (written as i64, BEFORE),
+            Refused(number) => (-number, BEFORE),
+            RefusedAt(number, place) => (-number, place),
+        };
+        let answered = lend(BEFORE, |place| unsafe {
+            raw::ovenquill_index_days(instants.as_ptr(), count, days.as_mut_ptr(), days_length, place)
+        });
+        assert_eq!(answered, wanted, "{instants:?} to {days_length} days");
+        assert_eq!(days, expected_days);
+        seen[if wanted.1 != BEFORE { 0 } else { 1 + usize::from(wanted.0 < 0) }] += 1;
+    }
+    assert!(seen.iter().all(|&times| times > 10_000), "bad instants, days written, unequal lengths: {seen:?}");
+}
+
+#[test]
+fn the_reader() {
+    let mut random = Random::new(28);
+    for _ in 0..300_000 {
+        let mut label = plain::instant_label(random.within(FIRST_INSTANT, LAST_INSTANT)).to_vec();
+        if random.within(0, 1) == 0 {
+            let place = random.within(0, label.len() as i64 - 1) as usize;
+            label[place] = random.choose(b"0123456789-:.TZ");
+        }
+        if random.within(0, 9) == 0 {
+            label.pop();
+        }
+        try_place(plain::read_instant(&label), BEFORE, |instant| unsafe {
+            raw::ovenquill_read_instant(label.as_ptr(), label.len(), instant)
+        });
+    }
+}
+
+#[test]
+fn constants_on_trial() {
+    let mut random = Random::new(29);
+    let mut seen = [0; 4];
+    for _ in 0..300_000 {
+        let d = some(&mut random, 1, 50);
+        let k = some(&mut random, 0, 12);
+        let m = ((1 << k.clamp(0, 12)) / d.clamp(1, 50) + random.within(0, 1)).min(LARGEST.m);
+        let (a, b, c, t) = (1, random.within(0, 3), random.within(0, 30), random.within(0, 1));
+        let q = Constants { a, b, d, m, c, k, t };
+        let end = some(&mut random, 0, 300);
+        let found = match plain::search(q, end, plain::walk) {
+            Value(least) => least.unwrap_or(end),
+            refused => -refused_number(refused),
+        };
+        assert_eq!(unsafe { raw::ovenquill_first_difference(a, b, d, m, c, k, t, end) }, found, "{q:?} below {end}");
+        // Half of the claims are right where there is a difference.
+        let bound = if random.within(0, 1) == 0 { end } else { found };
+        let (wanted, kind) = match plain::claim(q, bound, plain::walk) {
+            Value(()) => ((0, BEFORE), 0),
+            RefusedAt(number, least) => ((-number, least), 1),
+            Refused(number) => ((-number, BEFORE), if number == 9 { 2 } else { 3 }),
+        };
+        let answered = lend(BEFORE, |least| unsafe { raw::ovenquill_check_bound(a, b, d, m, c, k, t, bound, least) });
+        assert_eq!(answered, wanted, "{q:?} at {bound}");
+        seen[kind] += 1;
+    }
+    assert!(seen.iter().all(|&times| times > 10_000), "accepted, refused by 10, by 9 and by 11: {seen:?}");
+}
+
+#[test]
+fn writers() {
+    for (number, length, instant_returns, position_returns) in [
+        (0, plain::LABEL_BYTES, plain::LABEL_BYTES as i64, 12),
+        (0, 12, -7, 12),
+        (0, 11, -7, -7),
+        (-1, 11, -7, -6),
+        (i64::MAX, 40, -4, -6),
+        (i64::MIN, 0, -4, -6),
+    ] {
+        let mut out = vec![b'?'; length];
+        assert_eq!(unsafe { raw::ovenquill_write_instant(number, out.as_mut_ptr(), length) }, instant_returns);
+        assert_eq!(out.iter().all(|&byte| byte == b'?'), instant_returns < 0);
+        let mut out = vec![b'?'; length];
+        assert_eq!(unsafe { raw::ovenquill_write_position(number, out.as_mut_ptr(), length) }, position_returns);
+        assert_eq!(out.iter().all(|&byte| byte == b'?'), position_returns < 0);
+    }
+}
+
+#[test]
+fn no_slice_at_all() {
+    // As C may lend it: null, with the length 0.
+    assert_eq!(unsafe { raw::ovenquill_write_instant(0, ptr::null_mut(), 0) }, -7);
+    assert_eq!(unsafe { raw::ovenquill_write_position(0, ptr::null_mut(), 0) }, -7);
+    let read = lend(BEFORE, |instant| unsafe { raw::ovenquill_read_instant(ptr::null(), 0, instant) });
+    assert_eq!(read, (-8, BEFORE));
+    let indexed = lend(BEFORE, |place| unsafe { raw::ovenquill_index_days(ptr::null(), 0, ptr::null_mut(), 0, place) });
+    assert_eq!(indexed, (0, BEFORE));
+    let mut days = [7; 1];
+    let indexed =
+        lend(BEFORE, |place| unsafe { raw::ovenquill_index_days(ptr::null(), 0, days.as_mut_ptr(), 1, place) });
+    assert_eq!((indexed, days), ((-12, BEFORE), [7]));
+}
