@@ -35,7 +35,7 @@ FAULTS = [
     (RUST, "a struct with a field less", r"(pub )?millisecond: i64,( \})", r"\2", "ovenquill_split_instant"),
     (HEADER, "a struct with fields swapped", r"(int64_t )(minute)(; int64_t )(second);", r"\1\4\3\2;", "ovenquill_fields"),
     (RUST, "a struct in no fixed order", r"#\[repr\(C\)\]", "", "repr(C)"),
-    (RATTLE, "a place handed over as a number", r"least: &mut i64", "least: i64", "ovenquill_check_bound"),
+    (RATTLE, "a place handed over as a number", r"(ovenquill_check_bound\([^)]*least:) &mut i64", r"\1 i64", "ovenquill_check_bound"),
     (HEADER, "a place handed over as a number", r"int64_t \*least", "int64_t least", "ovenquill_check_bound"),
     (RUST, "a place handed over as a number", r"least: \*mut i64", "least: i64", "ovenquill_check_bound"),
     (HEADER, "a length before its pointer", r"(uint8_t \*out), (size_t length)", r"\2, \1", "ovenquill_write"),
