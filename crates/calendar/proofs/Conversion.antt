@@ -11,7 +11,7 @@ use mir.Val.{SFits, toZ}
 use mir.Facts.{toZ-pos}
 use Rattle.numbers.proofs.Machine.{read, add-first, add-first-is}
 use Rattle.calendar.specs.Gregorian.{date, dateAfter}
-use Rattle.calendar.specs.Closed.{fromYear, baseYear, lastDay, leapDay, leaps, start, before, Valid, count, public, newYear, fromMarch, beforeMarch}
+use Rattle.calendar.specs.Closed.{fromYear, baseYear, lastDay, firstFromMarch, leapDay, leaps, start, before, Valid, count, public, newYear, fromMarch, beforeMarch}
 use Rattle.calendar.proofs.Leap.{leaps-step, leaps-next}
 use Rattle.calendar.proofs.Months.{before-early, before-late}
 use Rattle.calendar.proofs.March.{centuryOf, dayOfCentury, yearOfCentury, dayOfMarchYear, century-sum, algorithm-3}
@@ -26,7 +26,7 @@ made y m d hy hm hd =
 
 -- the day as if every fourth year were leap, and the year that begins in March and its day as the code takes them from it
 abbrev pub regular : ℕ → ℕ
-regular n = n + 146037 + centuryOf n - centuryOf n / 4
+regular n = n + firstFromMarch + centuryOf n - centuryOf n / 4
 
 abbrev pub marchYear : ℕ → ℕ
 marchYear n = (4 * regular n + 3) / 1461
@@ -35,7 +35,7 @@ abbrev pub marchDay : ℕ → ℕ
 marchDay n = regular n - 1461 * marchYear n / 4
 
 regular-is : (n : ℕ) → regular n ≡ 36525 * centuryOf n + dayOfCentury n
-regular-is n = omega (arith, century-sum (n + 146037))
+regular-is n = omega (arith, century-sum (n + firstFromMarch))
 
 year-of : (w C R : ℕ) → w ≡ 36525 * C + R → (4 * w + 3) / 1461 ≡ 100 * C + (4 * R + 3) / 1461
 year-of w C R e = omega arith

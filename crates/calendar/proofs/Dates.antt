@@ -12,7 +12,7 @@ use Rattle.refusal.specs.declared.Refusal.{Refusal}
 use Rattle.refusal.specs.Numbers.{refusalNumber}
 use Rattle.refusal.specs.Outcome.{Outcome, value, refused}
 use Rattle.numbers.specs.Range.{outside, since}
-use Rattle.numbers.proofs.Integers.{above, outside-no, not-outside, below-outside, above-outside, inside, add-injective}
+use Rattle.numbers.proofs.Integers.{above, outside-no, inside, add-injective}
 use Rattle.numbers.proofs.Machine.{read}
 use Rattle.calendar.specs.declared.Date.{Date}
 use Rattle.calendar.specs.declared.Checked.{Checked}
@@ -30,7 +30,7 @@ use Rattle.calendar.proofs.Tested.{year-is, year-from, year-to}
 use Rattle.calendar.proofs.Tests.{month-accepted, day-decides, accepted-valid, accepted-is, accepted-answer, date-refused, of-read}
 
 -- a date in natural numbers
-pub record Natural (date : Date) : Type 0 where
+pub record NaturalDate (date : Date) : Type 0 where
   pub y : ℕ
   pub m : ℕ
   pub d : ℕ
@@ -39,7 +39,7 @@ pub record Natural (date : Date) : Type 0 where
   pub from : fromYear ≤ y
   pub to : y ≤ toYear
 
-pub natural : (d : Date) → ValidDate d → Natural d
+pub natural : (d : Date) → ValidDate d → NaturalDate d
 natural date v =
     let mo = outside-no (pos 1) (pos 12) (date .month) (v .month-inside) in
     let da = outside-no (pos 1) (monthLength (date .year) (date .month)) (date .day) (v .day-inside) in
@@ -93,13 +93,13 @@ unfolding dayOfYear
 year-day y m d v = ap (λ b. pos (b + d)) (before-public y m (v .month-low) (v .month-high))
 
 -- a valid date is one of the steps
-pub record Counted (d : Date) : Type 0 where
+pub record CountedDate (d : Date) : Type 0 where
   pub n : ℕ
   pub small : n ≤ lastDay
   pub count-is : countOfDate d ≡ firstCount +ℤ pos n
   pub date-is : d ≡ dateAfter n
 
-pub counted : (d : Date) → ValidDate d → Counted d
+pub counted : (d : Date) → ValidDate d → CountedDate d
 counted d v =
     let t = natural d v in
     record {
@@ -114,48 +114,40 @@ count-inside d v =
     let k = counted d v in
     ap (outside firstCount lastCount) (k .count-is) ∙ inside firstCount lastCount refl (k .n) (k .small)
 
--- what the tests of the day make of a month that was accepted
+-- what the test of the day makes of a month that was accepted
 module _ (year month day len : ℤ) (e : value len ≡ lastDayAnswer year month) where
   month-tests : (outside firstYear lastYear year ≡ false) × ((outside (pos 1) (pos 12) month ≡ false) × (len ≡ monthLength year month))
   month-tests = month-accepted year month len e
 
-  decided : (t : Bool) → outside (pos 1) (monthLength year month) day ≡ t → ofDate year month day value ≡ cond t (refused 3) (value (date year month day))
-  decided t h =
-      day-decides year month day value (month-tests .0) (month-tests .1 .0) ∙ ap (λ t. cond t (refused 3) (value (date year month day))) h
+  decided : {t : Bool} → outside (pos 1) len day ≡ t → ofDate year month day value ≡ cond t (refused 3) (value (date year month day))
+  decided h =
+      day-decides year month day value (month-tests .0) (month-tests .1 .0)
+      ∙ ap (λ t. cond t (refused 3) (value (date year month day))) (ap (λ l. outside (pos 1) l day) (sym (month-tests .1 .1)) ∙ h)
 
-  pub day-too-small : ltZ day (pos 1) ≡ true → refused 3 ≡ ofDate year month day value
-  day-too-small lo = sym (decided true (below-outside (pos 1) (monthLength year month) day lo))
+  pub day-refused : outside (pos 1) len day ≡ true → refused 3 ≡ ofDate year month day value
+  day-refused h = sym (decided h)
 
-  high : {t : Bool} → ltZ len day ≡ t → ltZ (monthLength year month) day ≡ t
-  high h = ap (λ l. ltZ l day) (sym (month-tests .1 .1)) ∙ h
-
-  pub day-too-large : ltZ day (pos 1) ≡ false → ltZ len day ≡ true → refused 3 ≡ ofDate year month day value
-  day-too-large lo hi = sym (decided true (above-outside (pos 1) (monthLength year month) day lo (high hi)))
-
-  module _ (lo : ltZ day (pos 1) ≡ false) (hi : ltZ len day ≡ false) where
-    pub tested-valid : ValidDate (date year month day)
-    tested-valid =
+  module _ (h : outside (pos 1) len day ≡ false) where
+    pub day-accepted : ValidDate (date year month day)
+    day-accepted =
         record {
           year-inside = month-tests .0;
           month-inside = month-tests .1 .0;
-          day-inside = not-outside (pos 1) (monthLength year month) day lo (high hi);
+          day-inside = ap (λ l. outside (pos 1) l day) (sym (month-tests .1 .1)) ∙ h;
         }
 
-    pub checked :
+    pub date-accepted :
         (y : ℕ) → baseYear +ℤ pos y ≡ year →
         (value (public y (natAbs month) (natAbs day)) ≡ ofDate year month day value)
         × (Valid y (natAbs month) (natAbs day) × ((fromYear ≤ y) × (y ≤ toYear)))
-    checked y h =
-        let n = natural (date year month day) tested-valid in
-        let p : n .y ≡ y = add-injective baseYear (n .y) y (sym (ap (λ (d : Date). d .year) (n .is)) ∙ sym h) in
-        let q : n .m ≡ natAbs month = sym (ap (λ (d : Date). natAbs (d .month)) (n .is)) in
-        let r : n .d ≡ natAbs day = sym (ap (λ (d : Date). natAbs (d .day)) (n .is)) in (
-          ap value ((λ i. public (sym p i) (sym q i) (sym r i)) ∙ sym (n .is)) ∙ sym (decided false (tested-valid .day-inside)),
-          (
-            subst (λ y. Valid y (natAbs month) (natAbs day)) p
-                (subst (λ m. Valid (n .y) m (natAbs day)) q (subst (λ d. Valid (n .y) (n .m) d) r (n .valid))),
-            (subst (λ y. fromYear ≤ y) p (n .from), subst (λ y. y ≤ toYear) p (n .to)),
-          ),
+    date-accepted y p =
+        let n = natural (date year month day) day-accepted in
+        let q : n .y ≡ y = add-injective baseYear (n .y) y (sym (ap (λ (d : Date). d .year) (n .is)) ∙ sym p) in
+        let m : n .m ≡ natAbs month = sym (ap (λ (d : Date). natAbs (d .month)) (n .is)) in
+        let d : n .d ≡ natAbs day = sym (ap (λ (d : Date). natAbs (d .day)) (n .is)) in (
+          ap value ((λ i. public (sym q i) (sym m i) (sym d i)) ∙ sym (n .is)) ∙ sym (decided h),
+          subst (λ y. Valid y (natAbs month) (natAbs day) × ((fromYear ≤ y) × (y ≤ toYear))) q
+              (subst (λ m. Valid (n .y) m (natAbs day)) m (subst (λ d. Valid (n .y) (n .m) d) d (n .valid)), (n .from, n .to)),
         )
 
 -- shifted dates

@@ -13,18 +13,20 @@ use Rattle.refusal.specs.Outcome.{value, refused}
 use Rattle.numbers.specs.Floor.{floorRemainder}
 use Rattle.numbers.specs.Range.{outside, since}
 use Rattle.numbers.proofs.Integers.{no-both, outside-no, not-outside, add-since, since-add, since-le, lt-add, add-injective}
+use Rattle.numbers.proofs.Between.{inside-pos}
 use Rattle.calendar.specs.declared.Date.{Date}
 use Rattle.calendar.specs.Range.{firstYear, lastYear, firstCount, lastCount}
 use Rattle.calendar.specs.Gregorian.{divides, leapYear, monthLength, date, nextDay, dateAfter, ValidDate, Earlier, by-year, by-month, by-day}
-use Rattle.calendar.specs.Count.{dateOfCount, countOfDate, weekday}
+use Rattle.calendar.specs.Count.{dateOfCount, countOfDate, weekday, weekdayAfter, dayOfYear}
 use Rattle.calendar.specs.Answers.{daysAnswer, civilAnswer, addDaysAnswer}
 use Rattle.calendar.specs.Closed.{fromYear, toYear, baseYear, cycle, lastDay, leapDay, leapℕ, leaps, start, monthDays, before, Valid, count, public}
-use Rattle.calendar.proofs.Months.{length-public}
+use Rattle.calendar.proofs.Leap.{leap-public}
+use Rattle.calendar.proofs.Months.{length-public, within-year}
 use Rattle.calendar.proofs.Order.{Before, in-year, in-month, in-day, before-less, trichotomy}
 use Rattle.calendar.proofs.Steps.{at, found, count-after, range-years}
 use Rattle.calendar.proofs.Tests.{valid-answer, accepted-valid, accepted-is}
-use Rattle.calendar.proofs.Weekday.{weekday-add}
-use Rattle.calendar.proofs.Dates.{counted, count-inside, days-inside, added}
+use Rattle.calendar.proofs.Weekdays.{remainder-le, weekday-after}
+use Rattle.calendar.proofs.Dates.{natural, year-day, counted, count-inside, days-inside, added}
 
 -- counts and valid dates correspond one to one
 
@@ -49,8 +51,8 @@ natural-valid : (y m d : ℕ) → Valid y m d → fromYear ≤ y → y ≤ toYea
 natural-valid y m d v from to =
     record {
       year-inside =
-          not-outside firstYear lastYear (baseYear +ℤ pos y) (lt-add baseYear y 400 ∙ le-ltb y 400 from)
-          (lt-add baseYear 10399 y ∙ le-ltb 10399 y to);
+          not-outside firstYear lastYear (baseYear +ℤ pos y) (lt-add baseYear y fromYear ∙ le-ltb y fromYear from)
+          (lt-add baseYear toYear y ∙ le-ltb toYear y to);
       month-inside =
           not-outside (pos 1) (pos 12) (pos m) (le-ltb m 1 (v .month-low)) (le-ltb 12 m (v .month-high));
       day-inside =
@@ -155,7 +157,7 @@ module _ (a b : ℤ) (p : outside firstCount lastCount a ≡ false) (q : outside
       less-earlier (since firstCount a) (since firstCount b) (ltb-true (since firstCount a) (since firstCount b) (sym from-firsts ∙ h))
 
 -- the ends of the range
-pub first-count-is-first-date : civilAnswer firstCount ≡ value (date (pos 0) (pos 1) (pos 1))
+pub first-count-is-first-date : civilAnswer firstCount ≡ value (date firstYear (pos 1) (pos 1))
 unfolding civilAnswer dateOfCount dateAfter
 first-count-is-first-date = refl
 
@@ -163,11 +165,11 @@ first-count-is-first-date = refl
 pub date-at : (n y m d : ℕ) → Valid y m d → count y m d ≡ cycle + n → dateAfter n ≡ public y m d
 date-at = found
 
-pub last-count-is-last-date : civilAnswer lastCount ≡ value (date (pos 9999) (pos 12) (pos 31))
+pub last-count-is-last-date : civilAnswer lastCount ≡ value (date lastYear (pos 12) (pos 31))
 unfolding civilAnswer dateOfCount count start leaps leapDay leapℕ before monthDays
 last-count-is-last-date =
     ap value
-    (found 3652424 10399 12 31
+    (found lastDay toYear 12 31
     (record { month-low = omega arith; month-high = omega arith; day-low = omega arith; day-high = omega arith })
     refl)
 
@@ -176,8 +178,31 @@ pub day-zero-is-thursday : weekday (pos 0) ≡ pos 4
 unfolding weekday
 day-zero-is-thursday = refl
 
-pub weekday-moves-by-one : (z : ℤ) → weekday (z +ℤ pos 1) ≡ pos ((natAbs (weekday z) + 1) % 7)
-weekday-moves-by-one z = weekday-add z (pos 1)
+pub weekday-is-in-range : (z : ℤ) → outside (pos 0) (pos 6) (weekday z) ≡ false
+unfolding weekday
+weekday-is-in-range z = inside-pos 0 6 (floorRemainder (z +ℤ pos 4) 7) (omega arith) (remainder-le (z +ℤ pos 4))
+
+pub weekday-moves-by-one : (z : ℤ) → weekday (z +ℤ pos 1) ≡ weekdayAfter (weekday z) 1
+weekday-moves-by-one z = weekday-after z 1
+
+-- the day of the year: 1 to 366 in a leap year, 1 to 365 in a common one
+year-length : (y : ℕ) → cond (leapYear (baseYear +ℤ pos y)) (pos 366) (pos 365) ≡ pos (365 + leapDay y)
+unfolding leapDay
+year-length y = rw (leap-public y) (go (leapℕ y))
+  where
+    go : (t : Bool) → cond t (pos 366) (pos 365) ≡ pos (365 + cond t 1 0)
+    go true = refl
+    go false = refl
+
+pub day-of-year-is-in-range : (d : Date) → ValidDate d → outside (pos 1) (cond (leapYear (d .year)) (pos 366) (pos 365)) (dayOfYear d) ≡ false
+day-of-year-is-in-range d v =
+    let t = natural d v in
+    let w = t .valid in
+    let l = leapDay (t .y) in
+    ap (λ (d : Date). outside (pos 1) (cond (leapYear (d .year)) (pos 366) (pos 365)) (dayOfYear d)) (t .is)
+    ∙ ap₂ (outside (pos 1)) (year-length (t .y)) (year-day (t .y) (t .m) (t .d) w)
+    ∙ inside-pos 1 (365 + l) (before l (t .m) + t .d) (omega (arith, w .day-low))
+    (omega (arith, within-year l (t .m) (t .d) (w .month-low) (w .month-high) (w .day-low) (w .day-high)))
 
 -- the leap flag is the leap rule
 leap-tests : (a b c : Bool) → ((a && not (b && not c)) ≡ true) ↔ ((a ≡ true) × (b ≡ true → c ≡ true))
@@ -203,6 +228,10 @@ leap-rule y =
       ),
       λ h. t .1 (eq-eqb (floorRemainder y 4) 0 (h .0), λ k. eq-eqb (floorRemainder y 400) 0 (h .1 (eqb-true (floorRemainder y 100) 0 k))),
     )
+
+pub year-zero-is-leap : leapYear (pos 0) ≡ true
+unfolding leapYear
+year-zero-is-leap = refl
 
 -- a shifted date is the date of the sum of the count and the days, taken in whole numbers, or 4 exactly if that lies outside the range
 pub add-days-is-date-of-sum : (year month day z p : ℤ) → daysAnswer year month day ≡ value z → addDaysAnswer year month day p ≡ civilAnswer (z +ℤ p)

@@ -6,7 +6,7 @@ use native.Mathlib.Decide.{ℕ-discrete}
 use native.Mathlib.Omega.{arith}
 use native.Mathlib.Nat.{mul-mod-right}
 use lib.Dec.{eqb}
-use lib.IntN.{pos, _+ℤ_}
+use lib.IntN.{pos, natAbs, _+ℤ_}
 use borrow.Author.Tests.{eqb-true, eqb-false}
 use Rattle.numbers.specs.Floor.{floorRemainder}
 use Rattle.numbers.proofs.Integers.{on-sub}
@@ -73,13 +73,13 @@ leap-flag y = go (leapℕ y)
 
 -- the public rule sees the year modulo 400 only
 public-4 : (y : ℕ) → floorRemainder (baseYear +ℤ pos y) 4 ≡ y % 4
-public-4 y = on-sub (λ z. floorRemainder z 4 ≡ y % 4) y 400 (λ l. omega arith) (λ l. omega arith)
+public-4 y = on-sub (λ z. floorRemainder z 4 ≡ y % 4) y (natAbs baseYear) (λ l. omega arith) (λ l. omega arith)
 
 public-100 : (y : ℕ) → floorRemainder (baseYear +ℤ pos y) 100 ≡ y % 100
-public-100 y = on-sub (λ z. floorRemainder z 100 ≡ y % 100) y 400 (λ l. omega arith) (λ l. omega arith)
+public-100 y = on-sub (λ z. floorRemainder z 100 ≡ y % 100) y (natAbs baseYear) (λ l. omega arith) (λ l. omega arith)
 
 public-400 : (y : ℕ) → floorRemainder (baseYear +ℤ pos y) 400 ≡ y % 400
-public-400 y = on-sub (λ z. floorRemainder z 400 ≡ y % 400) y 400 (λ l. omega arith) (λ l. omega arith)
+public-400 y = on-sub (λ z. floorRemainder z 400 ≡ y % 400) y (natAbs baseYear) (λ l. omega arith) (λ l. omega arith)
 
 pub leap-public : (y : ℕ) → leapYear (baseYear +ℤ pos y) ≡ leapℕ y
 unfolding leapYear leapℕ

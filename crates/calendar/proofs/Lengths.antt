@@ -21,6 +21,7 @@ use Rattle.calendar.specs.Checked.{commonLength}
 use Rattle.calendar.specs.Closed.{baseYear, leapDay, monthDays}
 use Rattle.calendar.proofs.Leap.{leap-le}
 use Rattle.calendar.proofs.Months.{months, length-le, length-public}
+use Rattle.calendar.proofs.Tests.{passes, refuses, not-refused, same-value}
 
 module _ (month : ℤ) (f : SFits w64 month) where
   pub at-key : (k : ℕ) → k < 2 ^ 63 → ofZ w64 month ≡ k → commonLength (pos k) ≡ commonLength month
@@ -47,19 +48,9 @@ module _ (month : ℤ) (f : SFits w64 month) where
       go true e = absurd (none (ap (ofZ w64) (eqZ-true month (pos 2) e)))
       go false e = refl
 
--- a month of a common year, accepted or refused
-common-tests : (t : Bool) (x : ℤ) {n : ℤ} → value n ≡ cond t (refused 2) (value x) → (t ≡ false) × (n ≡ x)
-common-tests true x e = absurd (let z : _≡_ {A = ℕ} 0 1 = cc in omega arith)
-common-tests false x e = (refl, cc)
-
-common-refusals : (t : Bool) (x y : ℤ) {k : ℕ} → refused k ≡ cond t (refused 2) (value x) → refused k ≡ cond t (refused 2) (value y)
-common-refusals true x y e = e
-common-refusals false x y e = absurd (let z : _≡_ {A = ℕ} 0 1 = cc in omega arith)
-
 pub length-refused : (year month : ℤ) (k : ℕ) → outside firstYear lastYear year ≡ false → refused k ≡ commonLength month → refused k ≡ lastDayAnswer year month
 unfolding commonLength lastDayAnswer
-length-refused year month k h e =
-    rw h (common-refusals (outside (pos 1) (pos 12) month) (pos (monthDays 0 (natAbs month))) (monthLength year month) e)
+length-refused year month k h e = rw h (refuses (outside (pos 1) (pos 12) month) 2 _ _ (not-refused _ _) e)
 
 with-leap-day : (l m : ℕ) → 1 ≤ m → m ≤ 12 → monthDays l m ≡ monthDays 0 m + cond (eqb m 2) l 0
 unfolding monthDays
@@ -70,7 +61,7 @@ module _ (year month len : ℤ) (y l x : ℕ) (h : outside firstYear lastYear ye
     (p : baseYear +ℤ pos y ≡ year) (q : l ≡ leapDay y) (r : x ≡ cond (eqZ month (pos 2)) l 0) where
   passed : (outside (pos 1) (pos 12) month ≡ false) × (len ≡ pos (monthDays 0 (natAbs month)))
   unfolding commonLength
-  passed = common-tests (outside (pos 1) (pos 12) month) (pos (monthDays 0 (natAbs month))) e
+  passed = let a = passes (outside (pos 1) (pos 12) month) 2 _ e in (a .0, same-value (a .1))
 
   number : (m : ℕ) × ((1 ≤ m) × ((m ≤ 12) × (month ≡ pos m)))
   number =

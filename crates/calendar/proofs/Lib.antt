@@ -2,7 +2,7 @@ pub mod Leap
 pub mod Months
 pub mod Order
 pub mod Steps
-pub mod Weekday
+pub mod Weekdays
 pub mod Tested
 pub mod Lengths
 pub mod Tests

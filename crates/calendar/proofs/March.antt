@@ -7,7 +7,7 @@ use native.Mathlib.Decide.{decLt}
 use native.Mathlib.Omega.{arith, by-contra}
 use borrow.Author.Tests.{lt-ltb, le-ltb}
 use Rattle.calendar.specs.Gregorian.{dateAfter}
-use Rattle.calendar.specs.Closed.{cycle, leapDay, leaps, start, monthDays, before, Valid, count, public, newYear}
+use Rattle.calendar.specs.Closed.{cycle, firstFromMarch, leapDay, leaps, start, monthDays, before, Valid, count, public, newYear}
 use Rattle.calendar.proofs.Leap.{leap-le, leap-is-one, leaps-next}
 use Rattle.calendar.proofs.Months.{UpTo, up-to}
 use Rattle.calendar.proofs.Order.{start-step}
@@ -19,10 +19,10 @@ record Century (z C R : ℕ) : Type 0 where
   most : R ≤ 36524
   full : R ≡ 36524 → C % 4 ≡ 3
 
-pub century-sum : (z : ℕ) → z ≡ 36524 * ((4 * z + 3) / 146097) + (4 * z + 3) / 146097 / 4 + (4 * z + 3) % 146097 / 4
+pub century-sum : (z : ℕ) → z ≡ 36524 * ((4 * z + 3) / cycle) + (4 * z + 3) / cycle / 4 + (4 * z + 3) % cycle / 4
 century-sum z = omega arith
 
-century : (z : ℕ) → Century z ((4 * z + 3) / 146097) ((4 * z + 3) % 146097 / 4)
+century : (z : ℕ) → Century z ((4 * z + 3) / cycle) ((4 * z + 3) % cycle / 4)
 century z = let s = century-sum z in omega arith
 
 -- the year of the century and the day in it
@@ -172,10 +172,10 @@ module _ (n C Z k : ℕ) (w : March (cycle + n) C Z k) where
 
 -- the algorithm's century, its day and so on, of the day n after the first
 abbrev pub centuryOf : ℕ → ℕ
-centuryOf n = (4 * (n + 146037) + 3) / 146097
+centuryOf n = (4 * (n + firstFromMarch) + 3) / cycle
 
 abbrev pub dayOfCentury : ℕ → ℕ
-dayOfCentury n = (4 * (n + 146037) + 3) % 146097 / 4
+dayOfCentury n = (4 * (n + firstFromMarch) + 3) % cycle / 4
 
 abbrev pub yearOfCentury : ℕ → ℕ
 yearOfCentury n = (4 * dayOfCentury n + 3) / 1461
@@ -183,7 +183,7 @@ yearOfCentury n = (4 * dayOfCentury n + 3) / 1461
 abbrev pub dayOfMarchYear : ℕ → ℕ
 dayOfMarchYear n = (4 * dayOfCentury n + 3) % 1461 / 4
 
-from-cycle : (n : ℕ) → cycle + n ≡ n + 146037 + 60
+from-cycle : (n : ℕ) → cycle + n ≡ n + firstFromMarch + 60
 from-cycle n = omega arith
 
 pub algorithm-3 :
@@ -191,7 +191,7 @@ pub algorithm-3 :
     dateAfter n ≡ public (100 * centuryOf n + yearOfCentury n + j) ((5 * dayOfMarchYear n + 461) / 153 - 12 * j)
     ((5 * dayOfMarchYear n + 461) % 153 / 5 + 1)
 algorithm-3 n j e =
-    let c = century (n + 146037) in
+    let c = century (n + firstFromMarch) in
     let y = year (dayOfCentury n) (c .most) in
     from-either n (centuryOf n) (yearOfCentury n) (dayOfMarchYear n)
-    (march (cycle + n) (n + 146037) _ _ _ _ (from-cycle n) c y) (y .days) j e
+    (march (cycle + n) (n + firstFromMarch) _ _ _ _ (from-cycle n) c y) (y .days) j e

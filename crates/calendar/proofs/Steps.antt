@@ -1,4 +1,4 @@
--- The calendar by steps is the closed forms: the date n days after the first is the one date with the day number 146097 + n.
+-- The calendar by steps is the closed forms: the date n days after the first is the one date with the day number cycle + n.
 use Prim.Native.Nat.{ℕ, zero, suc, _+_, _≤_, _<_}
 use mathlib.Core.Path.{_≡_, refl, sym, ap, _∙_, subst}
 use mathlib.Core.Bool.{Bool, true, false, _&&_}
@@ -45,7 +45,7 @@ at-first : At 0
 unfolding dateAfter count start leaps leapDay leapℕ before monthDays
 at-first =
     record {
-      year = 400;
+      year = fromYear;
       month = 1;
       day = 1;
       valid = record { month-low = omega arith; month-high = omega arith; day-low = omega arith; day-high = omega arith };
@@ -195,23 +195,23 @@ unfolding countOfDate
 count-after n h = ap (λ k. firstCount +ℤ pos k) (from-first lastDay n ∙ until lastDay 0 n h)
 
 -- the years of the range, counted from baseYear, and their days
-start-first : start 400 ≡ cycle
+start-first : start fromYear ≡ cycle
 unfolding start leaps
 start-first = refl
 
-start-end : start 10400 ≡ cycle + (lastDay + 1)
+start-end : start (toYear + 1) ≡ cycle + (lastDay + 1)
 unfolding start leaps
 start-end = refl
 
 pub in-range : (y m d : ℕ) → Valid y m d → fromYear ≤ y → y ≤ toYear → (cycle ≤ count y m d) × (count y m d ≤ cycle + lastDay)
 in-range y m d v lo hi =
     let w = within y m d v in
-    (omega (arith, start-first, start-monotone 400 y lo, w .0), omega (arith, start-end, start-monotone (y + 1) 10400 (omega arith), w .1))
+    (omega (arith, start-first, start-monotone fromYear y lo, w .0), omega (arith, start-end, start-monotone (y + 1) (toYear + 1) (omega arith), w .1))
 
 pub range-years : (n : ℕ) → n ≤ lastDay → (fromYear ≤ at n .year) × (at n .year ≤ toYear)
 range-years n h =
     let a = at n in
     let w = within (a .year) (a .month) (a .day) (a .valid) in (
-      by-contra _ _ (λ k. omega (arith, a .number, start-first, start-monotone (a .year + 1) 400 (omega arith), w .1)),
-      by-contra _ _ (λ k. omega (arith, a .number, start-end, start-monotone 10400 (a .year) (omega arith), w .0)),
+      by-contra _ _ (λ k. omega (arith, a .number, start-first, start-monotone (a .year + 1) fromYear (omega arith), w .1)),
+      by-contra _ _ (λ k. omega (arith, a .number, start-end, start-monotone (toYear + 1) (a .year) (omega arith), w .0)),
     )

@@ -2,6 +2,7 @@
 // algorithms 3 and 4, in the paper's names. Years are counted from BASE_YEAR, which is a multiple of 400.
 
 use super::range::BASE_YEAR;
+use super::range::CYCLE;
 use super::year;
 use crate::Date;
 ghost use mathlib.Core.Path.{_≡_};
@@ -9,19 +10,22 @@ ghost use Prim.Native.Nat.{_≤_, _+_};
 ghost use Rattle.calendar.specs.Gregorian.{dateAfter};
 ghost use Rattle.calendar.specs.Closed.{fromYear, toYear, newYear, cycle, lastDay, Valid, count};
 
+// The first day of the range, counted from 1 March of BASE_YEAR: January and February of a leap year have 60 days.
+const FIRST_FROM_MARCH: u32 = CYCLE - 60;
+
 // The date n days after the first: algorithm 3. Where the paper takes the day of the century, the leap days that three in four
 // centuries lack are added instead, so that every fourth year is leap, and the year is found as in algorithm 1.
 pub fn date_after(n: u32) -> Date
     requires { ⌜ n ≤ lastDay ⌝ }
     ensures { λ r. ⌜ r ≡ dateAfter n ⌝ }
 {
-    let n_0 = n + 146037;
-    let c = (4 * n_0 + 3) / 146097;
+    let n_0 = n + FIRST_FROM_MARCH;
+    let c = (4 * n_0 + 3) / CYCLE;
     let regular = n_0 + c - c / 4;
     let y = (4 * regular + 3) / 1461;
-    let n_y = regular - 1461 * y / 4;
-    let m = (5 * n_y + 461) / 153;
-    let j = new_year(n_y);
+    let n_y = regular - 1461 * y / 4; // [0, 365]
+    let m = (5 * n_y + 461) / 153; // [3, 14]
+    let j = new_year(n_y); // [0, 1]
     Date {
         year: (y + j) as i64 + BASE_YEAR,
         month: (m - 12 * j) as i64,

@@ -79,7 +79,7 @@ pub fn weekday_from_days(days: i64) -> NumberAnswer
     if numbers::outside(FIRST_COUNT, LAST_COUNT, days) {
         return NumberAnswer::Refused(Refusal::OutOfRange);
     }
-    NumberAnswer::Value(((days_from_first(days) + FIRST_WEEKDAY) % 7) as i64)
+    NumberAnswer::Value(((FIRST_WEEKDAY + days_from_first(days)) % 7) as i64)
 }
 
 // Whether a year is leap.
@@ -124,10 +124,7 @@ pub fn add_days(year: i64, month: i64, day: i64, days: i64) -> DateAnswer
 {
     match days_from_civil(year, month, day) {
         NumberAnswer::Value(count) => {
-            if days < FIRST_COUNT - count {
-                return DateAnswer::Refused(Refusal::OutOfRange);
-            }
-            if days > LAST_COUNT - count {
+            if numbers::outside(FIRST_COUNT - count, LAST_COUNT - count, days) {
                 return DateAnswer::Refused(Refusal::OutOfRange);
             }
             DateAnswer::Value(date_of_count(count + days))
@@ -167,10 +164,7 @@ fn check_date(year: i64, month: i64, day: i64) -> Checked
 {
     match last_day_of_month(year, month) {
         NumberAnswer::Value(length) => {
-            if day < 1 {
-                return Checked::Refused(Refusal::DayOutOfRange);
-            }
-            if day > length {
+            if numbers::outside(1, length, day) {
                 return Checked::Refused(Refusal::DayOutOfRange);
             }
             Checked::Date(years_from_base(year), month as u32, day as u32)

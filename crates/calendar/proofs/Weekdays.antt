@@ -1,12 +1,11 @@
 -- Weekdays of sums.
-use Prim.Native.Nat.{ℕ, suc, _+_, _-_, _%_}
+use Prim.Native.Nat.{ℕ, suc, _+_, _-_, _%_, _≤_}
 use mathlib.Core.Path.{_≡_, ap, sym, _∙_}
 use native.Mathlib.Omega.{arith}
-use lib.IntN.{ℤ, pos, negsuc, natAbs, _+ℤ_, +ℤ-assoc, +ℤ-comm}
+use lib.IntN.{ℤ, pos, negsuc, _+ℤ_, +ℤ-assoc, +ℤ-comm}
 use Rattle.numbers.specs.Floor.{floorRemainder}
 use Rattle.numbers.proofs.Integers.{on-sub}
-use Rattle.calendar.specs.Range.{firstCount}
-use Rattle.calendar.specs.Count.{weekday}
+use Rattle.calendar.specs.Count.{weekday, weekdayAfter}
 
 -- the remainder of a sum
 remainder-add : (z p : ℤ) → floorRemainder (z +ℤ p) 7 ≡ (floorRemainder z 7 + floorRemainder p 7) % 7
@@ -17,17 +16,17 @@ remainder-add (negsuc a) (pos b) =
     on-sub (λ z. floorRemainder z 7 ≡ (6 - a % 7 + b % 7) % 7) b (suc a) (λ l. omega arith) (λ l. omega arith)
 remainder-add (negsuc a) (negsuc b) = omega arith
 
-pub weekday-add : (z p : ℤ) → weekday (z +ℤ p) ≡ pos ((natAbs (weekday z) + floorRemainder p 7) % 7)
+pub remainder-le : (z : ℤ) → floorRemainder z 7 ≤ 6
+remainder-le (pos a) = omega arith
+remainder-le (negsuc a) = omega arith
+
+pub weekday-add : (z p : ℤ) → weekday (z +ℤ p) ≡ weekdayAfter (weekday z) (floorRemainder p 7)
 unfolding weekday
 weekday-add z p =
     ap pos
     (ap (λ z. floorRemainder z 7) (+ℤ-assoc z p (pos 4) ∙ ap (λ x. z +ℤ x) (+ℤ-comm p (pos 4)) ∙ sym (+ℤ-assoc z (pos 4) p))
     ∙ remainder-add (z +ℤ pos 4) p)
 
--- the first day is a Saturday
-from-saturday : (n : ℕ) → (natAbs (weekday firstCount) + n % 7) % 7 ≡ (n + 6) % 7
+pub weekday-after : (z : ℤ) (n : ℕ) → weekday (z +ℤ pos n) ≡ weekdayAfter (weekday z) n
 unfolding weekday
-from-saturday n = omega arith
-
-pub weekday-from-first : (n : ℕ) → weekday (firstCount +ℤ pos n) ≡ pos ((n + 6) % 7)
-weekday-from-first n = weekday-add firstCount (pos n) ∙ ap pos (from-saturday n)
+weekday-after z n = weekday-add z (pos n) ∙ ap pos (omega arith)
