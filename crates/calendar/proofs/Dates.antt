@@ -22,10 +22,10 @@ use Rattle.calendar.specs.Gregorian.{monthLength, date, dateAfter, Valid
 use Rattle.calendar.specs.Count.{dateOfCount, countOfDate, dayOfYear}
 use Rattle.calendar.specs.Answers.{lastDayAnswer, ofDate, daysAnswer, civilAnswer, addDaysAnswer}
 use Rattle.calendar.specs.Checked.{checkedOutcome}
-use Rattle.calendar.specs.Closed.{fromYear, toYear, baseYear, baseCount, cycle, lastDay, leapDay, monthDays, before, Valid, count, public}
+use Rattle.calendar.specs.Closed.{baseYear, baseCount, cycle, lastDay, leapDay, monthDays, before, Valid, InRange, count, public}
 use Rattle.calendar.proofs.Leap.{leap-le}
 use Rattle.calendar.proofs.Months.{length-le, length-public, before-public}
-use Rattle.calendar.proofs.Steps.{found, in-range, count-after}
+use Rattle.calendar.proofs.Steps.{found, count-in-range, count-after}
 use Rattle.calendar.proofs.Tested.{year-is, year-from, year-to}
 use Rattle.calendar.proofs.Tests.{month-accepted, day-decides, accepted-valid, accepted-is, accepted-answer, date-refused, of-read}
 
@@ -36,8 +36,7 @@ pub record NaturalDate (date : Date) : Type 0 where
   pub d : ℕ
   pub is : date ≡ public y m d
   pub valid : Valid y m d
-  pub from : fromYear ≤ y
-  pub to : y ≤ toYear
+  pub in-range : InRange y m d
 
 pub natural : (d : Date) → ValidDate d → NaturalDate d
 natural date v =
@@ -53,34 +52,34 @@ natural date v =
     let len : monthLength (date .year) (date .month) ≡ pos (monthDays (leapDay y) m) =
     (λ i. monthLength (p i) (a .1 i)) ∙ length-public y m (omega arith) hm in
     let hd : d ≤ monthDays (leapDay y) m = ltb-false (monthDays (leapDay y) m) d ((λ i. ltZ (sym len i) (sym (b .1) i)) ∙ da .1) in
+    let w : Valid y m d = record { month-low = omega arith; month-high = hm; day-low = omega arith; day-high = hd } in
     record {
       y = y;
       m = m;
       d = d;
       is = (λ i. record { year = p i; month = a .1 i; day = b .1 i });
-      valid = record { month-low = omega arith; month-high = hm; day-low = omega arith; day-high = hd };
-      from = year-from (date .year) (v .year-inside);
-      to = year-to (date .year) (v .year-inside);
+      valid = w;
+      in-range = record { valid = w; from = year-from (date .year) (v .year-inside); to = year-to (date .year) (v .year-inside) };
     }
 
 pub day-small : (y m d : ℕ) → Valid y m d → d ≤ 31
 day-small y m d v = let l = length-le (leapDay y) m (leap-le y) (v .month-low) (v .month-high) in omega (arith, v .day-high)
 
 -- the count and the day of the year of a date in natural numbers
-module _ (y m d : ℕ) (v : Valid y m d) (from : fromYear ≤ y) (to : y ≤ toYear) where
+module _ (y m d : ℕ) (r : InRange y m d) where
   pub offset : ℕ
   offset = count y m d - cycle
 
   pub offset-le : offset ≤ lastDay
   unfolding offset
-  offset-le = omega (arith, in-range y m d v from to .1)
+  offset-le = omega (arith, count-in-range y m d r .1)
 
   offset-is : count y m d ≡ cycle + offset
   unfolding offset
-  offset-is = omega (arith, in-range y m d v from to .0)
+  offset-is = omega (arith, count-in-range y m d r .0)
 
   pub date-is : dateAfter offset ≡ public y m d
-  date-is = found offset y m d v offset-is
+  date-is = found offset y m d (r .valid) offset-is
 
   pub count-is : countOfDate (public y m d) ≡ firstCount +ℤ pos offset
   count-is = ap countOfDate (sym date-is) ∙ count-after offset offset-le
@@ -103,10 +102,10 @@ pub counted : (d : Date) → ValidDate d → CountedDate d
 counted d v =
     let t = natural d v in
     record {
-      n = offset (t .y) (t .m) (t .d) (t .valid) (t .from) (t .to);
-      small = offset-le (t .y) (t .m) (t .d) (t .valid) (t .from) (t .to);
-      count-is = ap countOfDate (t .is) ∙ count-is (t .y) (t .m) (t .d) (t .valid) (t .from) (t .to);
-      date-is = t .is ∙ sym (date-is (t .y) (t .m) (t .d) (t .valid) (t .from) (t .to));
+      n = offset (t .y) (t .m) (t .d) (t .in-range);
+      small = offset-le (t .y) (t .m) (t .d) (t .in-range);
+      count-is = ap countOfDate (t .is) ∙ count-is (t .y) (t .m) (t .d) (t .in-range);
+      date-is = t .is ∙ sym (date-is (t .y) (t .m) (t .d) (t .in-range));
     }
 
 pub count-inside : (d : Date) → ValidDate d → outside firstCount lastCount (countOfDate d) ≡ false
@@ -139,15 +138,14 @@ module _ (year month day len : ℤ) (e : value len ≡ lastDayAnswer year month)
     pub date-accepted :
         (y : ℕ) → baseYear +ℤ pos y ≡ year →
         (value (public y (natAbs month) (natAbs day)) ≡ ofDate year month day value)
-        × (Valid y (natAbs month) (natAbs day) × ((fromYear ≤ y) × (y ≤ toYear)))
+        × InRange y (natAbs month) (natAbs day)
     date-accepted y p =
         let n = natural (date year month day) day-accepted in
         let q : n .y ≡ y = add-injective baseYear (n .y) y (sym (ap (λ (d : Date). d .year) (n .is)) ∙ sym p) in
         let m : n .m ≡ natAbs month = sym (ap (λ (d : Date). natAbs (d .month)) (n .is)) in
         let d : n .d ≡ natAbs day = sym (ap (λ (d : Date). natAbs (d .day)) (n .is)) in (
           ap value ((λ i. public (sym q i) (sym m i) (sym d i)) ∙ sym (n .is)) ∙ sym (decided h),
-          subst (λ y. Valid y (natAbs month) (natAbs day) × ((fromYear ≤ y) × (y ≤ toYear))) q
-              (subst (λ m. Valid (n .y) m (natAbs day)) m (subst (λ d. Valid (n .y) (n .m) d) d (n .valid)), (n .from, n .to)),
+          subst (λ y. InRange y (natAbs month) (natAbs day)) q (subst (λ m. InRange (n .y) m (natAbs day)) m (subst (InRange (n .y) (n .m)) d (n .in-range))),
         )
 
 -- shifted dates
@@ -181,7 +179,7 @@ not-added year month day p k h = date-refused year month day countOfDate k (λ d
 -- what a tested date answers
 module _ {year month day : ℤ} (fy : SFits w64 year) (fm : SFits w64 month) (fd : SFits w64 day) {r : Checked}
     (e : checkedOutcome r ≡ ofDate (read year) (read month) (read day) value) where
-  pub checked-value : {B : Type 0} (g : Date → B) {y m d : ℕ} → r ≡ C.Date y m d → value (g (public y m d)) ≡ ofDate year month day (λ d. value (g d))
+  pub checked-value : {B : Type 0} (g : Date → B) {y m d : ℕ} → r ≡ C.Accepted y m d → value (g (public y m d)) ≡ ofDate year month day (λ d. value (g d))
   checked-value g {y} {m} {d} p =
       let h : value (public y m d) ≡ ofDate (read year) (read month) (read day) value = ap checkedOutcome (sym p) ∙ e in
       ap (λ d. value (g d)) (accepted-is (read year) (read month) (read day) (λ d. d) (public y m d) h)

@@ -4,9 +4,10 @@
 use Prim.Native.Nat.{ℕ, zero, suc, _+_, _-_, _*_, _/_, _%_, _≤_}
 use mathlib.Core.Bool.{Bool, cond, not, _&&_}
 use mathlib.Core.List.{[], _∷_}
-use lib.Dec.{eqb, ltb}
+use lib.Dec.{eqb, leb}
 use lib.IntN.{ℤ, pos, _+ℤ_, _-ℤ_}
 use lib.ListN.{getD}
+use mir.Val.{boolByte}
 use Rattle.numbers.specs.Range.{since}
 use Rattle.calendar.specs.Range.{firstYear, lastYear, firstCount, lastCount}
 use Rattle.calendar.specs.Gregorian.{date}
@@ -73,6 +74,12 @@ pub record Valid (y m d : ℕ) : Type 0 where
   pub day-low : 1 ≤ d
   pub day-high : d ≤ monthDays (leapDay y) m
 
+-- and the year is one of the range
+pub record InRange (y m d : ℕ) : Type 0 where
+  pub valid : Valid y m d
+  pub from : fromYear ≤ y
+  pub to : y ≤ toYear
+
 -- the day of a date, counted from 1 January of baseYear
 unfoldable pub count : (y m d : ℕ) → ℕ
 count y m d = start y + before (leapDay y) m + (d - 1)
@@ -83,7 +90,7 @@ public y m d = date (baseYear +ℤ pos y) (pos m) (pos d)
 
 -- 1 for the days of January and February, the last of a year that begins on 1 March: Remark 1 of source document 000
 abbrev pub newYear : ℕ → ℕ
-newYear k = cond (ltb k 306) 0 1
+newYear k = boolByte (leb 306 k)
 
 -- the days from 1 March to the first of month m, where 13 and 14 are January and February: equation (10) of source document 000
 abbrev pub fromMarch : ℕ → ℕ
@@ -91,4 +98,4 @@ fromMarch m = (153 * m - 457) / 5
 
 -- 1 in January and February, else 0
 abbrev pub beforeMarch : ℕ → ℕ
-beforeMarch m = cond (ltb m 3) 1 0
+beforeMarch m = boolByte (leb m 2)

@@ -8,7 +8,7 @@ use crate::Date;
 ghost use mathlib.Core.Path.{_≡_};
 ghost use Prim.Native.Nat.{_≤_, _+_};
 ghost use Rattle.calendar.specs.Gregorian.{dateAfter};
-ghost use Rattle.calendar.specs.Closed.{fromYear, toYear, newYear, cycle, lastDay, Valid, count};
+ghost use Rattle.calendar.specs.Closed.{cycle, lastDay, InRange, count};
 
 // The first day of the range, counted from 1 March of BASE_YEAR: January and February of a leap year have 60 days.
 const FIRST_FROM_MARCH: u32 = CYCLE - 60;
@@ -25,7 +25,7 @@ pub fn date_after(n: u32) -> Date
     let y = (4 * regular + 3) / 1461;
     let n_y = regular - 1461 * y / 4; // [0, 365]
     let m = (5 * n_y + 461) / 153; // [3, 14]
-    let j = new_year(n_y); // [0, 1]
+    let j = (n_y >= 306) as u32; // [0, 1]
     Date {
         year: (y + j) as i64 + BASE_YEAR,
         month: (m - 12 * j) as i64,
@@ -33,19 +33,12 @@ pub fn date_after(n: u32) -> Date
     }
 }
 
-// 1 for the days of January and February, which end a year that begins in March.
-fn new_year(k: u32) -> u32
-    ensures { λ r. ⌜ (r ≡ newYear k) × (r ≤ 1) ⌝ }
-{
-    if k < 306 { 0 } else { 1 }
-}
-
 // The day of a date, counted from 1 January of BASE_YEAR.
 pub fn days_since_base(y: u32, m: u32, d: u32) -> u32
-    requires { ⌜ Valid y m d × ((fromYear ≤ y) × (y ≤ toYear)) ⌝ }
+    requires { ⌜ InRange y m d ⌝ }
     ensures { λ r. ⌜ (r ≡ count y m d) × ((cycle ≤ r) × (r ≤ cycle + lastDay)) ⌝ }
 {
-    let y_m = y - year::before_march(m);
+    let y_m = y - (m <= 2) as u32;
     let c = y_m / 100;
     365 * y + y_m / 4 - c + c / 4 + year::days_before(m) + d
 }

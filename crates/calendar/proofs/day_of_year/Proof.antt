@@ -8,7 +8,7 @@ use mir.Facts.{toZ-pos}
 use Rattle.refusal.specs.Outcome.{value}
 use Rattle.calendar.specs.Count.{dayOfYear}
 use Rattle.calendar.specs.Answers.{dayOfYearAnswer}
-use Rattle.calendar.specs.Checked.{CheckedValid}
+use Rattle.calendar.specs.Checked.{CheckedInRange}
 use Rattle.calendar.proofs.Dates.{day-small, year-day, checked-value, checked-refused}
 use Rattle.calendar.proofs.day_of_year.Statement.{statement}
 use Rattle.calendar.proofs.day_of_year.Tie as tie
@@ -21,13 +21,13 @@ enum-known-y c = search needs
 
 days-before-month-requires : tie.Need-days-before-month-requires
 days-before-month-requires c κs =
-    let v = subst CheckedValid (c .before .y .given .1) (c .before .before .before .check-date .ensures .1) in
-    (v .0 .month-low, v .0 .month-high)
+    let v = subst CheckedInRange (c .before .y .given .1) (c .before .before .before .check-date .ensures .1) in
+    (v .valid .month-low, v .valid .month-high)
 
 add-t11 : tie.Need-add-t11
 add-t11 c =
-    let v = subst CheckedValid (c .before .before .y .given .1) (c .before .before .before .before .check-date .ensures .1) in
-    record { fits = omega (arith, c .days-before-month .ensures .1, day-small _ _ _ (v .0)) }
+    let v = subst CheckedInRange (c .before .before .y .given .1) (c .before .before .before .before .check-date .ensures .1) in
+    record { fits = omega (arith, c .days-before-month .ensures .1, day-small _ _ _ (v .valid)) }
 
 cast-t12 : tie.Need-cast-t12
 cast-t12 c = search needs
@@ -38,13 +38,13 @@ enum-known-r c = search needs
 returns : tie.Need-returns
 unfolding dayOfYearAnswer
 returns c =
-    let v = subst CheckedValid (c .before .before .y .given .1) (c .before .before .before .before .check-date .ensures .1) in
+    let v = subst CheckedInRange (c .before .before .y .given .1) (c .before .before .before .before .check-date .ensures .1) in
     let s = c .before .before .before .before .before in
     let g = c .before .before .y .given in
-    let l = day-small _ _ _ (v .0) in
+    let l = day-small _ _ _ (v .valid) in
     ap value
     (toZ-pos w64 (omega (arith, c .days-before-month .ensures .1)) ∙ ap (λ b. pos (b + g .0 .1 .1 .0)) (c .days-before-month .ensures .0)
-    ∙ sym (year-day _ _ _ (v .0)))
+    ∙ sym (year-day _ _ _ (v .valid)))
     ∙ checked-value (s .fits .year) (s .fits .month) (s .fits .day) (c .before .before .before .before .check-date .ensures .0) dayOfYear (g .1)
 
 returns-2 : tie.Need-returns-2

@@ -6,7 +6,7 @@ use Rattle.refusal.specs.Outcome.{value}
 use Rattle.numbers.proofs.Machine.{add-first, add-first-is}
 use Rattle.calendar.specs.Count.{countOfDate}
 use Rattle.calendar.specs.Answers.{daysAnswer}
-use Rattle.calendar.specs.Checked.{CheckedValid}
+use Rattle.calendar.specs.Checked.{CheckedInRange}
 use Rattle.calendar.specs.Closed.{baseCount}
 use Rattle.calendar.proofs.Dates.{count-base, checked-value, checked-refused}
 use Rattle.calendar.proofs.days_from_civil.Statement.{statement}
@@ -19,7 +19,7 @@ enum-known-y : tie.Need-enum-known-y
 enum-known-y c = search needs
 
 days-since-base-requires : tie.Need-days-since-base-requires
-days-since-base-requires c κs = subst CheckedValid (c .before .y .given .1) (c .before .before .before .check-date .ensures .1)
+days-since-base-requires c κs = subst CheckedInRange (c .before .y .given .1) (c .before .before .before .check-date .ensures .1)
 
 cast-t11 : tie.Need-cast-t11
 cast-t11 c = search needs
@@ -33,12 +33,12 @@ enum-known-r c = search needs
 returns : tie.Need-returns
 unfolding daysAnswer
 returns c =
-    let v = subst CheckedValid (c .before .before .y .given .1) (c .before .before .before .before .check-date .ensures .1) in
+    let v = subst CheckedInRange (c .before .before .y .given .1) (c .before .before .before .before .check-date .ensures .1) in
     let s = c .before .before .before .before .before in
     let l = c .days-since-base .ensures .1 .1 in
     ap value
     (add-first-is baseCount (c .days-since-base .result) (omega arith) ∙ +ℤ-comm (pos (c .days-since-base .result)) baseCount
-    ∙ ap (λ n. baseCount +ℤ pos n) (c .days-since-base .ensures .0) ∙ count-base _ _ _ (v .0) (v .1 .0) (v .1 .1))
+    ∙ ap (λ n. baseCount +ℤ pos n) (c .days-since-base .ensures .0) ∙ count-base _ _ _ v)
     ∙ checked-value (s .fits .year) (s .fits .month) (s .fits .day) (c .before .before .before .before .check-date .ensures .0) countOfDate (c .before .before .y .given .1)
 
 returns-2 : tie.Need-returns-2
