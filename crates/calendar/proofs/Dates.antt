@@ -26,7 +26,7 @@ use Rattle.calendar.specs.Closed.{baseYear, baseCount, cycle, lastDay, l
 use Rattle.calendar.proofs.Leap.{leap-le}
 use Rattle.calendar.proofs.Months.{length-le, length-public, before-public}
 use Rattle.calendar.proofs.Steps.{found, count-in-range, count-after}
-use Rattle.calendar.proofs.Tested.{year-is, year-from, year-to}
+use Rattle.calendar.proofs.Years.{year-is, year-from, year-to}
 use Rattle.calendar.proofs.Tests.{month-accepted, day-decides, accepted-valid, accepted-is, accepted-answer, date-refused, of-read}
 
 -- a date in natural numbers

@@ -25,7 +25,7 @@ use Rattle.calendar.proofs.Months.{length-public, within-year}
 use Rattle.calendar.proofs.Order.{Precedes, in-year, in-month, in-day, precedes-less, trichotomy}
 use Rattle.calendar.proofs.Steps.{at, found, count-after, at-in-range}
 use Rattle.calendar.proofs.Tests.{valid-answer, accepted-valid, accepted-is}
-use Rattle.calendar.proofs.Weekdays.{remainder-le, weekday-after}
+use Rattle.calendar.proofs.Weekdays.{weekday-le, weekday-after}
 use Rattle.calendar.proofs.Dates.{natural, year-day, counted, count-inside, days-inside, added}
 
 -- counts and valid dates correspond one to one
@@ -178,7 +178,7 @@ day-zero-is-thursday = refl
 
 pub weekday-is-in-range : (z : ℤ) → outside (pos 0) (pos 6) (weekday z) ≡ false
 unfolding weekday
-weekday-is-in-range z = inside-pos 0 6 (floorRemainder (z +ℤ pos 4) 7) (omega arith) (remainder-le (z +ℤ pos 4))
+weekday-is-in-range z = inside-pos 0 6 (natAbs (weekday z)) (omega arith) (weekday-le z)
 
 pub weekday-moves-by-one : (z : ℤ) → weekday (z +ℤ pos 1) ≡ weekdayAfter (weekday z) 1
 weekday-moves-by-one z = weekday-after z 1

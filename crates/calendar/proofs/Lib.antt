@@ -3,7 +3,7 @@ pub mod Months
 pub mod Order
 pub mod Steps
 pub mod Weekdays
-pub mod Tested
+pub mod Years
 pub mod Lengths
 pub mod Tests
 pub mod Dates

@@ -2,7 +2,7 @@
 use Prim.Native.Nat.{ℕ, suc, _+_, _-_, _%_, _≤_}
 use mathlib.Core.Path.{_≡_, ap, sym, _∙_}
 use native.Mathlib.Omega.{arith}
-use lib.IntN.{ℤ, pos, negsuc, _+ℤ_, +ℤ-assoc, +ℤ-comm}
+use lib.IntN.{ℤ, pos, negsuc, natAbs, _+ℤ_, +ℤ-assoc, +ℤ-comm}
 use Rattle.numbers.specs.Floor.{floorRemainder}
 use Rattle.numbers.proofs.Integers.{on-sub}
 use Rattle.calendar.specs.Count.{weekday, weekdayAfter}
@@ -16,16 +16,23 @@ remainder-add (negsuc a) (pos b) =
     on-sub (λ z. floorRemainder z 7 ≡ (6 - a % 7 + b % 7) % 7) b (suc a) (λ l. omega arith) (λ l. omega arith)
 remainder-add (negsuc a) (negsuc b) = omega arith
 
-pub remainder-le : (z : ℤ) → floorRemainder z 7 ≤ 6
+remainder-le : (z : ℤ) → floorRemainder z 7 ≤ 6
 remainder-le (pos a) = omega arith
 remainder-le (negsuc a) = omega arith
 
+-- the same, behind a shift by k
+shifted-add : (z p : ℤ) (k : ℕ) → floorRemainder (z +ℤ p +ℤ pos k) 7 ≡ (floorRemainder (z +ℤ pos k) 7 + floorRemainder p 7) % 7
+shifted-add z p k =
+    ap (λ z. floorRemainder z 7) (+ℤ-assoc z p (pos k) ∙ ap (λ x. z +ℤ x) (+ℤ-comm p (pos k)) ∙ sym (+ℤ-assoc z (pos k) p))
+    ∙ remainder-add (z +ℤ pos k) p
+
+pub weekday-le : (z : ℤ) → natAbs (weekday z) ≤ 6
+unfolding weekday
+weekday-le z = remainder-le (z +ℤ pos 4)
+
 pub weekday-add : (z p : ℤ) → weekday (z +ℤ p) ≡ weekdayAfter (weekday z) (floorRemainder p 7)
 unfolding weekday
-weekday-add z p =
-    ap pos
-    (ap (λ z. floorRemainder z 7) (+ℤ-assoc z p (pos 4) ∙ ap (λ x. z +ℤ x) (+ℤ-comm p (pos 4)) ∙ sym (+ℤ-assoc z (pos 4) p))
-    ∙ remainder-add (z +ℤ pos 4) p)
+weekday-add z p = ap pos (shifted-add z p 4)
 
 pub weekday-after : (z : ℤ) (n : ℕ) → weekday (z +ℤ pos n) ≡ weekdayAfter (weekday z) n
 unfolding weekday

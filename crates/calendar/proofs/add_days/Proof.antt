@@ -35,6 +35,9 @@ module _ (c : tie.After-known-told) where
   abbrev z : ℤ
   z = c .before .count .given .0 .0
 
+  abbrev days : ℤ
+  days = start .args .days
+
   count-is : value z ≡ daysAnswer (start .args .year) (start .args .month) (start .args .day)
   count-is = ap numberOutcome (sym (c .before .count .given .1)) ∙ days-answer (c .before .before .before)
 
@@ -42,33 +45,33 @@ module _ (c : tie.After-known-told) where
   in-range = days-inside (start .args .year) (start .args .month) (start .args .day) z count-is
 
 sub-outside : tie.Need-sub-outside
-sub-outside c = first-subtracts (z c) (start c .args .days) (in-range c) (start c .fits .days)
+sub-outside c = first-subtracts (z c) (days c) (in-range c) (start c .fits .days)
 
 sub-outside-2 : tie.Need-sub-outside-2
-sub-outside-2 c = last-subtracts (z c) (start c .args .days) (in-range c) (start c .fits .days)
+sub-outside-2 c = last-subtracts (z c) (days c) (in-range c) (start c .fits .days)
 
 outside-requires : tie.Need-outside-requires
 outside-requires c κs = search needs
 
--- the shift was tested
-tested : (c : tie.After-outside) {t : Bool} → c .outside .result ≡ t → outside firstCount lastCount (z (c .before) +ℤ start (c .before) .args .days) ≡ t
-tested c h = let k = c .before in sum-tested (z k) (start k .args .days) (in-range k) (start k .fits .days) ∙ sym (c .outside .ensures) ∙ h
+-- what the test of the shift says of the sum
+shift-tested : (c : tie.After-outside) {t : Bool} → c .outside .result ≡ t → outside firstCount lastCount (z (c .before) +ℤ days (c .before)) ≡ t
+shift-tested c h = let k = c .before in sum-tested (z k) (days k) (in-range k) (start k .fits .days) ∙ sym (c .outside .ensures) ∙ h
 
 returns : tie.Need-returns
 returns c = let k = c .before .before in
     let a = start k .args in
-    added-outside (a .year) (a .month) (a .day) (z k) (count-is k) (a .days) (tested (c .before) (c .if1 .taken))
+    added-outside (a .year) (a .month) (a .day) (z k) (count-is k) (a .days) (shift-tested (c .before) (c .if1 .taken))
 
 add-date-of-count : tie.Need-add-date-of-count
 add-date-of-count c = let k = c .before .before in
-    sum-fits (z k) (start k .args .days) (in-range k) (start k .fits .days) (tested (c .before) (c .if1 .left))
+    sum-fits (z k) (days k) (in-range k) (start k .fits .days) (shift-tested (c .before) (c .if1 .left))
 
 -- the sum that is taken
-sum : (c : tie.Else1) → let k = c .before .before in read (read (z k) +ℤ read (start k .args .days)) ≡ z k +ℤ start k .args .days
-sum c = let k = c .before .before in sum-is (z k) (start k .args .days) (in-range k) (start k .fits .days) (tested (c .before) (c .if1 .left))
+sum : (c : tie.Else1) → let k = c .before .before in read (read (z k) +ℤ read (days k)) ≡ z k +ℤ days k
+sum c = let k = c .before .before in sum-is (z k) (days k) (in-range k) (start k .fits .days) (shift-tested (c .before) (c .if1 .left))
 
 date-of-count-requires : tie.Need-date-of-count-requires
-date-of-count-requires c κs = ap (outside firstCount lastCount) (sum c) ∙ tested (c .before) (c .if1 .left)
+date-of-count-requires c κs = ap (outside firstCount lastCount) (sum c) ∙ shift-tested (c .before) (c .if1 .left)
 
 enum-known-r : tie.Need-enum-known-r
 enum-known-r c = search needs
@@ -77,7 +80,7 @@ returns-2 : tie.Need-returns-2
 returns-2 c = let k = c .before .before .before in
     let a = start k .args in
     ap value (c .date-of-count .ensures ∙ ap dateOfCount (sum (c .before)))
-    ∙ added-inside (a .year) (a .month) (a .day) (z k) (count-is k) (a .days) (tested (c .before .before) (c .before .if1 .left))
+    ∙ added-inside (a .year) (a .month) (a .day) (z k) (count-is k) (a .days) (shift-tested (c .before .before) (c .before .if1 .left))
 
 returns-3 : tie.Need-returns-3
 returns-3 c = let a = c .before .before .before .before .args in

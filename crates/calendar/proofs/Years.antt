@@ -1,4 +1,4 @@
--- Tested years and counts as natural numbers, and what the tests make of each answer.
+-- A tested year as a natural number, counted from baseYear.
 use Prim.Native.Nat.{_≤_}
 use mathlib.Core.Path.{_≡_, refl, sym, ap, _∙_}
 use mathlib.Core.Bool.{false}
