@@ -12,7 +12,7 @@ use Rattle.refusal.specs.declared.Refusal.{Refusal}
 use Rattle.refusal.specs.Numbers.{refusalNumber}
 use Rattle.refusal.specs.Outcome.{Outcome, value, refused}
 use Rattle.numbers.specs.Range.{outside, since}
-use Rattle.numbers.proofs.Integers.{above, outside-no, not-outside, below-outside, above-outside, inside, add-injective}
+use Rattle.numbers.proofs.Integers.{above, outside-no, inside, add-injective}
 use Rattle.numbers.proofs.Machine.{read}
 use Rattle.calendar.specs.declared.Date.{Date}
 use Rattle.calendar.specs.declared.Checked.{Checked}
@@ -22,24 +22,23 @@ use Rattle.calendar.specs.Gregorian.{monthLength, date, dateAfter, Valid
 use Rattle.calendar.specs.Count.{dateOfCount, countOfDate, dayOfYear}
 use Rattle.calendar.specs.Answers.{lastDayAnswer, ofDate, daysAnswer, civilAnswer, addDaysAnswer}
 use Rattle.calendar.specs.Checked.{checkedOutcome}
-use Rattle.calendar.specs.Closed.{fromYear, toYear, baseYear, baseCount, cycle, lastDay, leapDay, monthDays, before, Valid, count, public}
+use Rattle.calendar.specs.Closed.{baseYear, baseCount, cycle, lastDay, leapDay, monthDays, before, Valid, InRange, count, public}
 use Rattle.calendar.proofs.Leap.{leap-le}
 use Rattle.calendar.proofs.Months.{length-le, length-public, before-public}
-use Rattle.calendar.proofs.Steps.{found, in-range, count-after}
-use Rattle.calendar.proofs.Tested.{year-is, year-from, year-to}
+use Rattle.calendar.proofs.Steps.{found, count-in-range, count-after}
+use Rattle.calendar.proofs.Years.{year-is, year-from, year-to}
 use Rattle.calendar.proofs.Tests.{month-accepted, day-decides, accepted-valid, accepted-is, accepted-answer, date-refused, of-read}
 
 -- a date in natural numbers
-pub record Natural (date : Date) : Type 0 where
+pub record NaturalDate (date : Date) : Type 0 where
   pub y : ℕ
   pub m : ℕ
   pub d : ℕ
   pub is : date ≡ public y m d
   pub valid : Valid y m d
-  pub from : fromYear ≤ y
-  pub to : y ≤ toYear
+  pub in-range : InRange y m d
 
-pub natural : (d : Date) → ValidDate d → Natural d
+pub natural : (d : Date) → ValidDate d → NaturalDate d
 natural date v =
     let mo = outside-no (pos 1) (pos 12) (date .month) (v .month-inside) in
     let da = outside-no (pos 1) (monthLength (date .year) (date .month)) (date .day) (v .day-inside) in
@@ -53,34 +52,34 @@ natural date v =
     let len : monthLength (date .year) (date .month) ≡ pos (monthDays (leapDay y) m) =
     (λ i. monthLength (p i) (a .1 i)) ∙ length-public y m (omega arith) hm in
     let hd : d ≤ monthDays (leapDay y) m = ltb-false (monthDays (leapDay y) m) d ((λ i. ltZ (sym len i) (sym (b .1) i)) ∙ da .1) in
+    let w : Valid y m d = record { month-low = omega arith; month-high = hm; day-low = omega arith; day-high = hd } in
     record {
       y = y;
       m = m;
       d = d;
       is = (λ i. record { year = p i; month = a .1 i; day = b .1 i });
-      valid = record { month-low = omega arith; month-high = hm; day-low = omega arith; day-high = hd };
-      from = year-from (date .year) (v .year-inside);
-      to = year-to (date .year) (v .year-inside);
+      valid = w;
+      in-range = record { valid = w; from = year-from (date .year) (v .year-inside); to = year-to (date .year) (v .year-inside) };
     }
 
 pub day-small : (y m d : ℕ) → Valid y m d → d ≤ 31
 day-small y m d v = let l = length-le (leapDay y) m (leap-le y) (v .month-low) (v .month-high) in omega (arith, v .day-high)
 
 -- the count and the day of the year of a date in natural numbers
-module _ (y m d : ℕ) (v : Valid y m d) (from : fromYear ≤ y) (to : y ≤ toYear) where
+module _ (y m d : ℕ) (r : InRange y m d) where
   pub offset : ℕ
   offset = count y m d - cycle
 
   pub offset-le : offset ≤ lastDay
   unfolding offset
-  offset-le = omega (arith, in-range y m d v from to .1)
+  offset-le = omega (arith, count-in-range y m d r .1)
 
   offset-is : count y m d ≡ cycle + offset
   unfolding offset
-  offset-is = omega (arith, in-range y m d v from to .0)
+  offset-is = omega (arith, count-in-range y m d r .0)
 
   pub date-is : dateAfter offset ≡ public y m d
-  date-is = found offset y m d v offset-is
+  date-is = found offset y m d (r .valid) offset-is
 
   pub count-is : countOfDate (public y m d) ≡ firstCount +ℤ pos offset
   count-is = ap countOfDate (sym date-is) ∙ count-after offset offset-le
@@ -93,20 +92,20 @@ unfolding dayOfYear
 year-day y m d v = ap (λ b. pos (b + d)) (before-public y m (v .month-low) (v .month-high))
 
 -- a valid date is one of the steps
-pub record Counted (d : Date) : Type 0 where
+pub record CountedDate (d : Date) : Type 0 where
   pub n : ℕ
   pub small : n ≤ lastDay
   pub count-is : countOfDate d ≡ firstCount +ℤ pos n
   pub date-is : d ≡ dateAfter n
 
-pub counted : (d : Date) → ValidDate d → Counted d
+pub counted : (d : Date) → ValidDate d → CountedDate d
 counted d v =
     let t = natural d v in
     record {
-      n = offset (t .y) (t .m) (t .d) (t .valid) (t .from) (t .to);
-      small = offset-le (t .y) (t .m) (t .d) (t .valid) (t .from) (t .to);
-      count-is = ap countOfDate (t .is) ∙ count-is (t .y) (t .m) (t .d) (t .valid) (t .from) (t .to);
-      date-is = t .is ∙ sym (date-is (t .y) (t .m) (t .d) (t .valid) (t .from) (t .to));
+      n = offset (t .y) (t .m) (t .d) (t .in-range);
+      small = offset-le (t .y) (t .m) (t .d) (t .in-range);
+      count-is = ap countOfDate (t .is) ∙ count-is (t .y) (t .m) (t .d) (t .in-range);
+      date-is = t .is ∙ sym (date-is (t .y) (t .m) (t .d) (t .in-range));
     }
 
 pub count-inside : (d : Date) → ValidDate d → outside firstCount lastCount (countOfDate d) ≡ false
@@ -114,48 +113,39 @@ count-inside d v =
     let k = counted d v in
     ap (outside firstCount lastCount) (k .count-is) ∙ inside firstCount lastCount refl (k .n) (k .small)
 
--- what the tests of the day make of a month that was accepted
+-- what the test of the day makes of a month that was accepted
 module _ (year month day len : ℤ) (e : value len ≡ lastDayAnswer year month) where
   month-tests : (outside firstYear lastYear year ≡ false) × ((outside (pos 1) (pos 12) month ≡ false) × (len ≡ monthLength year month))
   month-tests = month-accepted year month len e
 
-  decided : (t : Bool) → outside (pos 1) (monthLength year month) day ≡ t → ofDate year month day value ≡ cond t (refused 3) (value (date year month day))
-  decided t h =
-      day-decides year month day value (month-tests .0) (month-tests .1 .0) ∙ ap (λ t. cond t (refused 3) (value (date year month day))) h
+  decided : {t : Bool} → outside (pos 1) len day ≡ t → ofDate year month day value ≡ cond t (refused 3) (value (date year month day))
+  decided h =
+      day-decides year month day value (month-tests .0) (month-tests .1 .0)
+      ∙ ap (λ t. cond t (refused 3) (value (date year month day))) (ap (λ l. outside (pos 1) l day) (sym (month-tests .1 .1)) ∙ h)
 
-  pub day-too-small : ltZ day (pos 1) ≡ true → refused 3 ≡ ofDate year month day value
-  day-too-small lo = sym (decided true (below-outside (pos 1) (monthLength year month) day lo))
+  pub day-refused : outside (pos 1) len day ≡ true → refused 3 ≡ ofDate year month day value
+  day-refused h = sym (decided h)
 
-  high : {t : Bool} → ltZ len day ≡ t → ltZ (monthLength year month) day ≡ t
-  high h = ap (λ l. ltZ l day) (sym (month-tests .1 .1)) ∙ h
-
-  pub day-too-large : ltZ day (pos 1) ≡ false → ltZ len day ≡ true → refused 3 ≡ ofDate year month day value
-  day-too-large lo hi = sym (decided true (above-outside (pos 1) (monthLength year month) day lo (high hi)))
-
-  module _ (lo : ltZ day (pos 1) ≡ false) (hi : ltZ len day ≡ false) where
-    pub tested-valid : ValidDate (date year month day)
-    tested-valid =
+  module _ (h : outside (pos 1) len day ≡ false) where
+    pub day-accepted : ValidDate (date year month day)
+    day-accepted =
         record {
           year-inside = month-tests .0;
           month-inside = month-tests .1 .0;
-          day-inside = not-outside (pos 1) (monthLength year month) day lo (high hi);
+          day-inside = ap (λ l. outside (pos 1) l day) (sym (month-tests .1 .1)) ∙ h;
         }
 
-    pub checked :
+    pub date-accepted :
         (y : ℕ) → baseYear +ℤ pos y ≡ year →
         (value (public y (natAbs month) (natAbs day)) ≡ ofDate year month day value)
-        × (Valid y (natAbs month) (natAbs day) × ((fromYear ≤ y) × (y ≤ toYear)))
-    checked y h =
-        let n = natural (date year month day) tested-valid in
-        let p : n .y ≡ y = add-injective baseYear (n .y) y (sym (ap (λ (d : Date). d .year) (n .is)) ∙ sym h) in
-        let q : n .m ≡ natAbs month = sym (ap (λ (d : Date). natAbs (d .month)) (n .is)) in
-        let r : n .d ≡ natAbs day = sym (ap (λ (d : Date). natAbs (d .day)) (n .is)) in (
-          ap value ((λ i. public (sym p i) (sym q i) (sym r i)) ∙ sym (n .is)) ∙ sym (decided false (tested-valid .day-inside)),
-          (
-            subst (λ y. Valid y (natAbs month) (natAbs day)) p
-                (subst (λ m. Valid (n .y) m (natAbs day)) q (subst (λ d. Valid (n .y) (n .m) d) r (n .valid))),
-            (subst (λ y. fromYear ≤ y) p (n .from), subst (λ y. y ≤ toYear) p (n .to)),
-          ),
+        × InRange y (natAbs month) (natAbs day)
+    date-accepted y p =
+        let n = natural (date year month day) day-accepted in
+        let q : n .y ≡ y = add-injective baseYear (n .y) y (sym (ap (λ (d : Date). d .year) (n .is)) ∙ sym p) in
+        let m : n .m ≡ natAbs month = sym (ap (λ (d : Date). natAbs (d .month)) (n .is)) in
+        let d : n .d ≡ natAbs day = sym (ap (λ (d : Date). natAbs (d .day)) (n .is)) in (
+          ap value ((λ i. public (sym q i) (sym m i) (sym d i)) ∙ sym (n .is)) ∙ sym (decided h),
+          subst (λ y. InRange y (natAbs month) (natAbs day)) q (subst (λ m. InRange (n .y) m (natAbs day)) m (subst (InRange (n .y) (n .m)) d (n .in-range))),
         )
 
 -- shifted dates
@@ -189,7 +179,7 @@ not-added year month day p k h = date-refused year month day countOfDate k (λ d
 -- what a tested date answers
 module _ {year month day : ℤ} (fy : SFits w64 year) (fm : SFits w64 month) (fd : SFits w64 day) {r : Checked}
     (e : checkedOutcome r ≡ ofDate (read year) (read month) (read day) value) where
-  pub checked-value : {B : Type 0} (g : Date → B) {y m d : ℕ} → r ≡ C.Date y m d → value (g (public y m d)) ≡ ofDate year month day (λ d. value (g d))
+  pub checked-value : {B : Type 0} (g : Date → B) {y m d : ℕ} → r ≡ C.Accepted y m d → value (g (public y m d)) ≡ ofDate year month day (λ d. value (g d))
   checked-value g {y} {m} {d} p =
       let h : value (public y m d) ≡ ofDate (read year) (read month) (read day) value = ap checkedOutcome (sym p) ∙ e in
       ap (λ d. value (g d)) (accepted-is (read year) (read month) (read day) (λ d. d) (public y m d) h)

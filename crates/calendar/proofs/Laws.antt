@@ -1,5 +1,5 @@
 -- The theorems of the calendar, over the definition by steps.
-use Prim.Native.Nat.{ℕ, _+_, _%_, _≤_, _<_}
+use Prim.Native.Nat.{ℕ, _+_, _≤_, _<_}
 use mathlib.Core.Path.{_≡_, refl, sym, ap, ap₂, _∙_, subst}
 use mathlib.Core.Logic.{_↔_}
 use mathlib.Core.Bool.{Bool, true, false, cond, not, _&&_}
@@ -8,23 +8,25 @@ use native.Mathlib.Omega.{arith}
 use lib.Dec.{ltb}
 use lib.IntN.{ℤ, pos, natAbs, _+ℤ_, +ℤ-assoc}
 use lib.Signed.{ltZ}
-use borrow.Author.Tests.{ltb-true, lt-ltb, le-ltb, eqb-true, eq-eqb}
+use borrow.Author.Tests.{ltb-true, lt-ltb, eqb-true, eq-eqb}
 use Rattle.refusal.specs.Outcome.{value, refused}
 use Rattle.numbers.specs.Floor.{floorRemainder}
 use Rattle.numbers.specs.Range.{outside, since}
-use Rattle.numbers.proofs.Integers.{no-both, outside-no, not-outside, add-since, since-add, since-le, lt-add, add-injective}
+use Rattle.numbers.proofs.Integers.{no-both, outside-no, add-since, since-add, since-le, lt-add, add-injective}
+use Rattle.numbers.proofs.Between.{inside-pos, inside-from}
 use Rattle.calendar.specs.declared.Date.{Date}
 use Rattle.calendar.specs.Range.{firstYear, lastYear, firstCount, lastCount}
-use Rattle.calendar.specs.Gregorian.{divides, leapYear, monthLength, date, nextDay, dateAfter, ValidDate, Earlier, by-year, by-month, by-day}
-use Rattle.calendar.specs.Count.{dateOfCount, countOfDate, weekday}
+use Rattle.calendar.specs.Gregorian.{divides, leapYear, date, nextDay, dateAfter, ValidDate, Earlier, by-year, by-month, by-day}
+use Rattle.calendar.specs.Count.{dateOfCount, countOfDate, weekday, weekdayAfter, dayOfYear}
 use Rattle.calendar.specs.Answers.{daysAnswer, civilAnswer, addDaysAnswer}
-use Rattle.calendar.specs.Closed.{fromYear, toYear, baseYear, cycle, lastDay, leapDay, leapℕ, leaps, start, monthDays, before, Valid, count, public}
-use Rattle.calendar.proofs.Months.{length-public}
-use Rattle.calendar.proofs.Order.{Before, in-year, in-month, in-day, before-less, trichotomy}
-use Rattle.calendar.proofs.Steps.{at, found, count-after, range-years}
+use Rattle.calendar.specs.Closed.{fromYear, toYear, baseYear, cycle, lastDay, leapDay, leapℕ, leaps, start, monthDays, before, Valid, InRange, count, public}
+use Rattle.calendar.proofs.Leap.{leap-public}
+use Rattle.calendar.proofs.Months.{length-public, within-year}
+use Rattle.calendar.proofs.Order.{Precedes, in-year, in-month, in-day, precedes-less, trichotomy}
+use Rattle.calendar.proofs.Steps.{at, found, count-after, at-in-range}
 use Rattle.calendar.proofs.Tests.{valid-answer, accepted-valid, accepted-is}
-use Rattle.calendar.proofs.Weekday.{weekday-add}
-use Rattle.calendar.proofs.Dates.{counted, count-inside, days-inside, added}
+use Rattle.calendar.proofs.Weekdays.{weekday-le, weekday-after}
+use Rattle.calendar.proofs.Dates.{natural, year-day, counted, count-inside, days-inside, added}
 
 -- counts and valid dates correspond one to one
 
@@ -45,25 +47,23 @@ date-of-count-of-date d v =
     ap (λ z. dateAfter (since firstCount z)) (k .count-is) ∙ ap dateAfter (since-add firstCount (k .n)) ∙ sym (k .date-is)
 
 -- a date of natural numbers in the years of the range is valid
-natural-valid : (y m d : ℕ) → Valid y m d → fromYear ≤ y → y ≤ toYear → ValidDate (public y m d)
-natural-valid y m d v from to =
+natural-valid : (y m d : ℕ) → InRange y m d → ValidDate (public y m d)
+natural-valid y m d r =
+    let v = r .valid in
     record {
-      year-inside =
-          not-outside firstYear lastYear (baseYear +ℤ pos y) (lt-add baseYear y 400 ∙ le-ltb y 400 from)
-          (lt-add baseYear 10399 y ∙ le-ltb 10399 y to);
-      month-inside =
-          not-outside (pos 1) (pos 12) (pos m) (le-ltb m 1 (v .month-low)) (le-ltb 12 m (v .month-high));
+      year-inside = inside-from baseYear fromYear toYear y (r .from) (r .to);
+      month-inside = inside-pos 1 12 m (v .month-low) (v .month-high);
       day-inside =
-          not-outside (pos 1) (monthLength (baseYear +ℤ pos y) (pos m)) (pos d) (le-ltb d 1 (v .day-low))
-          (ap (λ l. ltZ l (pos d)) (length-public y m (v .month-low) (v .month-high)) ∙ le-ltb (monthDays (leapDay y) m) d (v .day-high));
+          ap (λ l. outside (pos 1) l (pos d)) (length-public y m (v .month-low) (v .month-high))
+          ∙ inside-pos 1 (monthDays (leapDay y) m) d (v .day-low) (v .day-high);
     }
 
 pub date-of-count-is-valid : (z : ℤ) → outside firstCount lastCount z ≡ false → ValidDate (dateOfCount z)
 unfolding dateOfCount
 date-of-count-is-valid z h =
-    let a = at (since firstCount z) in
-    let r = range-years (since firstCount z) (count-from z h .1) in
-    subst ValidDate (sym (a .is)) (natural-valid (a .year) (a .month) (a .day) (a .valid) (r .0) (r .1))
+    let n = since firstCount z in
+    let a = at n in
+    subst ValidDate (sym (a .is)) (natural-valid (a .year) (a .month) (a .day) (at-in-range n (count-from z h .1)))
 
 pub count-of-valid-date-is-in-range : (d : Date) → ValidDate d → outside firstCount lastCount (countOfDate d) ≡ false
 count-of-valid-date-is-in-range = count-inside
@@ -110,12 +110,12 @@ next-count-is-next-day z h =
     ∙ since-add firstCount (since firstCount z + 1) ∙ add-one (since firstCount z))
 
 -- an earlier date has a smaller count, and the other way round
-up : (y m d y′ m′ d′ : ℕ) → Before y m d y′ m′ d′ → Earlier (public y m d) (public y′ m′ d′)
+up : (y m d y′ m′ d′ : ℕ) → Precedes y m d y′ m′ d′ → Earlier (public y m d) (public y′ m′ d′)
 up y m d y′ m′ d′ (in-year h) = by-year (lt-add baseYear y y′ ∙ lt-ltb y y′ h)
 up y m d y′ m′ d′ (in-month p h) = by-month (ap (λ y. baseYear +ℤ pos y) p) (lt-ltb m m′ h)
 up y m d y′ m′ d′ (in-day p q h) = by-day (ap (λ y. baseYear +ℤ pos y) p) (ap pos q) (lt-ltb d d′ h)
 
-down : (y m d y′ m′ d′ : ℕ) → Earlier (public y m d) (public y′ m′ d′) → Before y m d y′ m′ d′
+down : (y m d y′ m′ d′ : ℕ) → Earlier (public y m d) (public y′ m′ d′) → Precedes y m d y′ m′ d′
 down y m d y′ m′ d′ (by-year h) = in-year (ltb-true y y′ (sym (lt-add baseYear y y′) ∙ h))
 down y m d y′ m′ d′ (by-month p h) = in-month (add-injective baseYear y y′ p) (ltb-true m m′ h)
 down y m d y′ m′ d′ (by-day p q h) = in-day (add-injective baseYear y y′ p) (ap natAbs q) (ltb-true d d′ h)
@@ -126,7 +126,7 @@ module _ (a b : ℕ) where
       let x = at a in
       let y = at b in
       let l =
-      before-less (x .year) (x .month) (x .day) (y .year) (y .month) (y .day) (x .valid) (y .valid)
+      precedes-less (x .year) (x .month) (x .day) (y .year) (y .month) (y .day) (x .valid) (y .valid)
       (down (x .year) (x .month) (x .day) (y .year) (y .month) (y .day) (subst (λ d. Earlier d (public (y .year) (y .month) (y .day))) (x .is) (subst (Earlier (dateAfter a)) (y .is) e))) in
       omega (arith, x .number, y .number)
 
@@ -134,10 +134,10 @@ module _ (a b : ℕ) where
   less-earlier h =
       let x = at a in
       let y = at b in
-      let w : Before (x .year) (x .month) (x .day) (y .year) (y .month) (y .day) =
+      let w : Precedes (x .year) (x .month) (x .day) (y .year) (y .month) (y .day) =
       trichotomy (x .year) (x .month) (x .day) (y .year) (y .month) (y .day) (λ w. w)
       (λ p q r. absurd (let e : count (x .year) (x .month) (x .day) ≡ count (y .year) (y .month) (y .day) = λ i. count (p i) (q i) (r i) in omega (arith, x .number, y .number)))
-      (λ w. absurd (let l = before-less (y .year) (y .month) (y .day) (x .year) (x .month) (x .day) (y .valid) (x .valid) w in omega (arith, x .number, y .number))) in
+      (λ w. absurd (let l = precedes-less (y .year) (y .month) (y .day) (x .year) (x .month) (x .day) (y .valid) (x .valid) w in omega (arith, x .number, y .number))) in
       subst (λ d. Earlier d (dateAfter b)) (sym (x .is)) (subst (Earlier (public (x .year) (x .month) (x .day))) (sym (y .is)) (up (x .year) (x .month) (x .day) (y .year) (y .month) (y .day) w))
 
 module _ (a b : ℤ) (p : outside firstCount lastCount a ≡ false) (q : outside firstCount lastCount b ≡ false) where
@@ -155,7 +155,7 @@ module _ (a b : ℤ) (p : outside firstCount lastCount a ≡ false) (q : outside
       less-earlier (since firstCount a) (since firstCount b) (ltb-true (since firstCount a) (since firstCount b) (sym from-firsts ∙ h))
 
 -- the ends of the range
-pub first-count-is-first-date : civilAnswer firstCount ≡ value (date (pos 0) (pos 1) (pos 1))
+pub first-count-is-first-date : civilAnswer firstCount ≡ value (date firstYear (pos 1) (pos 1))
 unfolding civilAnswer dateOfCount dateAfter
 first-count-is-first-date = refl
 
@@ -163,11 +163,11 @@ first-count-is-first-date = refl
 pub date-at : (n y m d : ℕ) → Valid y m d → count y m d ≡ cycle + n → dateAfter n ≡ public y m d
 date-at = found
 
-pub last-count-is-last-date : civilAnswer lastCount ≡ value (date (pos 9999) (pos 12) (pos 31))
+pub last-count-is-last-date : civilAnswer lastCount ≡ value (date lastYear (pos 12) (pos 31))
 unfolding civilAnswer dateOfCount count start leaps leapDay leapℕ before monthDays
 last-count-is-last-date =
     ap value
-    (found 3652424 10399 12 31
+    (found lastDay toYear 12 31
     (record { month-low = omega arith; month-high = omega arith; day-low = omega arith; day-high = omega arith })
     refl)
 
@@ -176,8 +176,31 @@ pub day-zero-is-thursday : weekday (pos 0) ≡ pos 4
 unfolding weekday
 day-zero-is-thursday = refl
 
-pub weekday-moves-by-one : (z : ℤ) → weekday (z +ℤ pos 1) ≡ pos ((natAbs (weekday z) + 1) % 7)
-weekday-moves-by-one z = weekday-add z (pos 1)
+pub weekday-is-in-range : (z : ℤ) → outside (pos 0) (pos 6) (weekday z) ≡ false
+unfolding weekday
+weekday-is-in-range z = inside-pos 0 6 (natAbs (weekday z)) (omega arith) (weekday-le z)
+
+pub weekday-moves-by-one : (z : ℤ) → weekday (z +ℤ pos 1) ≡ weekdayAfter (weekday z) 1
+weekday-moves-by-one z = weekday-after z 1
+
+-- the day of the year: 1 to 366 in a leap year, 1 to 365 in a common one
+year-length : (y : ℕ) → cond (leapYear (baseYear +ℤ pos y)) (pos 366) (pos 365) ≡ pos (365 + leapDay y)
+unfolding leapDay
+year-length y = rw (leap-public y) (go (leapℕ y))
+  where
+    go : (t : Bool) → cond t (pos 366) (pos 365) ≡ pos (365 + cond t 1 0)
+    go true = refl
+    go false = refl
+
+pub day-of-year-is-in-range : (d : Date) → ValidDate d → outside (pos 1) (cond (leapYear (d .year)) (pos 366) (pos 365)) (dayOfYear d) ≡ false
+day-of-year-is-in-range d v =
+    let t = natural d v in
+    let w = t .valid in
+    let l = leapDay (t .y) in
+    ap (λ (d : Date). outside (pos 1) (cond (leapYear (d .year)) (pos 366) (pos 365)) (dayOfYear d)) (t .is)
+    ∙ ap₂ (outside (pos 1)) (year-length (t .y)) (year-day (t .y) (t .m) (t .d) w)
+    ∙ inside-pos 1 (365 + l) (before l (t .m) + t .d) (omega (arith, w .day-low))
+    (omega (arith, within-year l (t .m) (t .d) (w .month-low) (w .month-high) (w .day-low) (w .day-high)))
 
 -- the leap flag is the leap rule
 leap-tests : (a b c : Bool) → ((a && not (b && not c)) ≡ true) ↔ ((a ≡ true) × (b ≡ true → c ≡ true))
@@ -203,6 +226,10 @@ leap-rule y =
       ),
       λ h. t .1 (eq-eqb (floorRemainder y 4) 0 (h .0), λ k. eq-eqb (floorRemainder y 400) 0 (h .1 (eqb-true (floorRemainder y 100) 0 k))),
     )
+
+pub year-zero-is-leap : leapYear (pos 0) ≡ true
+unfolding leapYear
+year-zero-is-leap = refl
 
 -- a shifted date is the date of the sum of the count and the days, taken in whole numbers, or 4 exactly if that lies outside the range
 pub add-days-is-date-of-sum : (year month day z p : ℤ) → daysAnswer year month day ≡ value z → addDaysAnswer year month day p ≡ civilAnswer (z +ℤ p)

@@ -1,13 +1,14 @@
 -- The leap rule on years counted from baseYear, and the number of leap years before a year.
 use Prim.Native.Nat.{ℕ, _+_, _-_, _*_, _/_, _%_, _≤_}
-use mathlib.Core.Path.{_≡_, refl, ap, _∙_}
+use mathlib.Core.Path.{_≡_, refl, sym, ap, _∙_}
 use mathlib.Core.Bool.{Bool, true, false, cond, not, _&&_}
 use native.Mathlib.Decide.{ℕ-discrete}
 use native.Mathlib.Omega.{arith}
 use native.Mathlib.Nat.{mul-mod-right}
 use lib.Dec.{eqb}
-use lib.IntN.{pos, _+ℤ_}
+use lib.IntN.{pos, natAbs, _+ℤ_}
 use borrow.Author.Tests.{eqb-true, eqb-false}
+use mir.Val.{boolByte}
 use Rattle.numbers.specs.Floor.{floorRemainder}
 use Rattle.numbers.proofs.Integers.{on-sub}
 use Rattle.calendar.specs.Gregorian.{leapYear}
@@ -49,19 +50,26 @@ by-400 y h k = let p : y ≡ 400 * (11 * (y / 25) - 7 * (y / 16)) = omega arith 
 
 -- 4 divides the year, or 16 where 25 divides it
 module _ (y r : ℕ) (by-16 : y % 25 ≡ 0 → r ≡ y % 16) (by-4 : (y % 25 ≡ 0 → ⊥) → r ≡ y % 4) where
-  pub rest-zero : r ≡ 0 → leapDay y ≡ 1
+  rest-zero : r ≡ 0 → leapDay y ≡ 1
   rest-zero h = go (ℕ-discrete (y % 25) 0)
     where
       go : Dec (y % 25 ≡ 0) → leapDay y ≡ 1
       go (yes e) = let p = by-16 e in leap-is-one y (omega arith) (λ k. by-400 y e (omega arith))
       go (no e) = let p = by-4 e in leap-is-one y (omega arith) (λ k. omega arith)
 
-  pub rest-left : (r ≡ 0 → ⊥) → leapDay y ≡ 0
+  rest-left : (r ≡ 0 → ⊥) → leapDay y ≡ 0
   rest-left h = go (ℕ-discrete (y % 25) 0)
     where
       go : Dec (y % 25 ≡ 0) → leapDay y ≡ 0
       go (yes e) = let p = by-16 e in leap-is-zero y (λ k. (by-100 y e k, λ i. omega arith))
       go (no e) = let p = by-4 e in leap-is-zero y (λ k. omega arith)
+
+  pub rest-flag : boolByte (eqb r 0) ≡ leapDay y
+  rest-flag = go (eqb r 0) refl
+    where
+      go : (t : Bool) → eqb r 0 ≡ t → boolByte t ≡ leapDay y
+      go true e = sym (rest-zero (eqb-true r 0 e))
+      go false e = sym (rest-left (eqb-false r 0 e))
 
 pub leap-flag : (y : ℕ) → eqb (leapDay y) 1 ≡ leapℕ y
 unfolding leapDay
@@ -73,13 +81,13 @@ leap-flag y = go (leapℕ y)
 
 -- the public rule sees the year modulo 400 only
 public-4 : (y : ℕ) → floorRemainder (baseYear +ℤ pos y) 4 ≡ y % 4
-public-4 y = on-sub (λ z. floorRemainder z 4 ≡ y % 4) y 400 (λ l. omega arith) (λ l. omega arith)
+public-4 y = on-sub (λ z. floorRemainder z 4 ≡ y % 4) y (natAbs baseYear) (λ l. omega arith) (λ l. omega arith)
 
 public-100 : (y : ℕ) → floorRemainder (baseYear +ℤ pos y) 100 ≡ y % 100
-public-100 y = on-sub (λ z. floorRemainder z 100 ≡ y % 100) y 400 (λ l. omega arith) (λ l. omega arith)
+public-100 y = on-sub (λ z. floorRemainder z 100 ≡ y % 100) y (natAbs baseYear) (λ l. omega arith) (λ l. omega arith)
 
 public-400 : (y : ℕ) → floorRemainder (baseYear +ℤ pos y) 400 ≡ y % 400
-public-400 y = on-sub (λ z. floorRemainder z 400 ≡ y % 400) y 400 (λ l. omega arith) (λ l. omega arith)
+public-400 y = on-sub (λ z. floorRemainder z 400 ≡ y % 400) y (natAbs baseYear) (λ l. omega arith) (λ l. omega arith)
 
 pub leap-public : (y : ℕ) → leapYear (baseYear +ℤ pos y) ≡ leapℕ y
 unfolding leapYear leapℕ

@@ -2,8 +2,8 @@ pub mod Leap
 pub mod Months
 pub mod Order
 pub mod Steps
-pub mod Weekday
-pub mod Tested
+pub mod Weekdays
+pub mod Years
 pub mod Lengths
 pub mod Tests
 pub mod Dates

@@ -1,32 +1,35 @@
 -- Algorithm 3 of source document 000, section 6, is the calendar by steps. Its years begin on 1 March: day z of these years lies in
 -- the century C on its day R, in the year Z of the century on its day k.
 use Prim.Native.Nat.{ℕ, _+_, _-_, _*_, _/_, _%_, _≤_, _<_}
-use mathlib.Core.Path.{_≡_, sym, ap, _∙_, subst}
-use mathlib.Core.Bool.{cond}
+use mathlib.Core.Path.{_≡_, refl, sym, ap, _∙_, subst}
+use mathlib.Core.Bool.{Bool, true, false}
 use native.Mathlib.Decide.{decLt}
+use native.Mathlib.Nat.{add-zero, sub-zero}
 use native.Mathlib.Omega.{arith, by-contra}
-use borrow.Author.Tests.{lt-ltb, le-ltb}
+use lib.Dec.{leb}
+use borrow.Author.Tests.{leb-true, leb-false}
+use mir.Val.{boolByte}
 use Rattle.calendar.specs.Gregorian.{dateAfter}
-use Rattle.calendar.specs.Closed.{cycle, leapDay, leaps, start, monthDays, before, Valid, count, public, newYear}
+use Rattle.calendar.specs.Closed.{cycle, firstFromMarch, leapDay, leaps, start, monthDays, before, Valid, count, public, newYear}
 use Rattle.calendar.proofs.Leap.{leap-le, leap-is-one, leaps-next}
 use Rattle.calendar.proofs.Months.{UpTo, up-to}
 use Rattle.calendar.proofs.Order.{start-step}
 use Rattle.calendar.proofs.Steps.{found}
 
 -- the century and the day in it
-record Century (z C R : ℕ) : Type 0 where
+record CenturyDay (z C R : ℕ) : Type 0 where
   sum : z ≡ 36524 * C + C / 4 + R
   most : R ≤ 36524
   full : R ≡ 36524 → C % 4 ≡ 3
 
-pub century-sum : (z : ℕ) → z ≡ 36524 * ((4 * z + 3) / 146097) + (4 * z + 3) / 146097 / 4 + (4 * z + 3) % 146097 / 4
+pub century-sum : (z : ℕ) → z ≡ 36524 * ((4 * z + 3) / cycle) + (4 * z + 3) / cycle / 4 + (4 * z + 3) % cycle / 4
 century-sum z = omega arith
 
-century : (z : ℕ) → Century z ((4 * z + 3) / 146097) ((4 * z + 3) % 146097 / 4)
+century : (z : ℕ) → CenturyDay z ((4 * z + 3) / cycle) ((4 * z + 3) % cycle / 4)
 century z = let s = century-sum z in omega arith
 
 -- the year of the century and the day in it
-record Year (R Z k : ℕ) : Type 0 where
+record YearDay (R Z k : ℕ) : Type 0 where
   sum : R ≡ 365 * Z + Z / 4 + k
   most : Z ≤ 99
   days : k ≤ 365
@@ -36,7 +39,7 @@ record Year (R Z k : ℕ) : Type 0 where
 year-sum : (R : ℕ) → R ≡ 365 * ((4 * R + 3) / 1461) + (4 * R + 3) / 1461 / 4 + (4 * R + 3) % 1461 / 4
 year-sum R = omega arith
 
-year : (R : ℕ) → R ≤ 36524 → Year R ((4 * R + 3) / 1461) ((4 * R + 3) % 1461 / 4)
+year : (R : ℕ) → R ≤ 36524 → YearDay R ((4 * R + 3) / 1461) ((4 * R + 3) % 1461 / 4)
 year R h = let s = year-sum R in omega arith
 
 -- the leap years up to the year 100 C + Z
@@ -74,7 +77,7 @@ leap-end C Z h f g = leap-is-one (100 * C + Z + 1) (by-4 C Z f) (λ k. go (decLt
         subst (λ Z. (100 * C + Z + 1) % 400 ≡ 0) (sym e) (by-400 C (g e))
 
 -- the day k after 1 March of the year 100 C + Z has the number n
-record March (n C Z k : ℕ) : Type 0 where
+record AfterMarch (n C Z k : ℕ) : Type 0 where
   sum : n ≡ 365 * (100 * C + Z) + leaps (100 * C + Z + 1) + 59 + k
   short : k < 365 + leapDay (100 * C + Z + 1)
 
@@ -83,8 +86,8 @@ march-sum :
     n ≡ 365 * (100 * C + Z) + L + 59 + k
 march-sum n z C R Z k L F G a b c d = omega arith
 
-march : (n z C R Z k : ℕ) → n ≡ z + 60 → Century z C R → Year R Z k → March n C Z k
-march n z C R Z k e c y =
+after-march : (n z C R Z k : ℕ) → n ≡ z + 60 → CenturyDay z C R → YearDay R Z k → AfterMarch n C Z k
+after-march n z C R Z k e c y =
     record {
       sum = march-sum n z C R Z k _ _ _ e (c .sum) (y .sum) (leaps-century C Z (y .most));
       short =
@@ -94,29 +97,29 @@ march n z C R Z k e c y =
     }
 
 -- the months from March to December
-abbrev Row : ℕ → ℕ → Type 0
-Row l m =
+abbrev MonthRow : ℕ → ℕ → Type 0
+MonthRow l m =
     (k D : ℕ) → 153 * m ≤ 5 * k + 461 → 5 * k + 461 < 153 * (m + 1) → 5 * D ≤ 5 * k + 461 - 153 * m →
     5 * k + 461 - 153 * m < 5 * (D + 1) → (59 + l + k ≡ before l m + D) × (D + 1 ≤ monthDays l m)
 
-row : (l m : ℕ) → 3 ≤ m → m ≤ 12 → Row l m
+row : (l m : ℕ) → 3 ≤ m → m ≤ 12 → MonthRow l m
 unfolding before monthDays
 row l m lo hi =
-    subst (Row l) (omega arith) (up-to (λ i. Row l (i + 2)) 10 rows (m - 2) (omega arith) (omega arith))
+    subst (MonthRow l) (omega arith) (up-to (λ i. MonthRow l (i + 2)) 10 rows (m - 2) (omega arith) (omega arith))
   where
-    rows : UpTo (λ i. Row l (i + 2)) 10
+    rows : UpTo (λ i. MonthRow l (i + 2)) 10
     rows = (((((omega arith, omega arith), omega arith), omega arith), omega arith), omega arith)
 
 -- January and February, in the year after
-abbrev Row′ : ℕ → ℕ → Type 0
-Row′ l m =
+abbrev MonthRow′ : ℕ → ℕ → Type 0
+MonthRow′ l m =
     (k D : ℕ) → k < 365 + l → 153 * (m + 12) ≤ 5 * k + 461 → 5 * k + 461 < 153 * (m + 13) →
     5 * D ≤ 5 * k + 461 - 153 * (m + 12) → 5 * k + 461 - 153 * (m + 12) < 5 * (D + 1) →
     (k ≡ 306 + before l m + D) × (D + 1 ≤ monthDays l m)
 
-row′ : (l m : ℕ) → l ≤ 1 → 1 ≤ m → m ≤ 2 → Row′ l m
+row′ : (l m : ℕ) → l ≤ 1 → 1 ≤ m → m ≤ 2 → MonthRow′ l m
 unfolding before monthDays
-row′ l m h = up-to (Row′ l) 2 (omega arith) m
+row′ l m h = up-to (MonthRow′ l) 2 (omega arith) m
 
 first-sum : (y S S′ l b k n D : ℕ) → S′ ≡ S + 365 + l → n + 306 ≡ S′ + k → 59 + l + k ≡ b + D → S + b + (D + 1 - 1) ≡ n
 first-sum y S S′ l b k n D p q r = omega arith
@@ -125,14 +128,14 @@ second-sum : (S b k n D : ℕ) → n + 306 ≡ S + k → k ≡ 306 + b + D → S
 second-sum S b k n D p q = omega arith
 
 -- 306 days before 1 March of the next year is 1 March
-start-sum : (n C Z k : ℕ) → March n C Z k → n + 306 ≡ start (100 * C + Z + 1) + k
+start-sum : (n C Z k : ℕ) → AfterMarch n C Z k → n + 306 ≡ start (100 * C + Z + 1) + k
 unfolding start
 start-sum n C Z k w = omega (arith, w .sum)
 
 valid-date : (y m D : ℕ) → 1 ≤ m → m ≤ 12 → D + 1 ≤ monthDays (leapDay y) m → Valid y m (D + 1)
 valid-date y m D lo hi h = record { month-low = lo; month-high = hi; day-low = omega arith; day-high = h }
 
-module _ (n C Z k : ℕ) (w : March (cycle + n) C Z k) where
+module _ (n C Z k : ℕ) (w : AfterMarch (cycle + n) C Z k) where
   from-march : k < 306 → dateAfter n ≡ public (100 * C + Z) ((5 * k + 461) / 153) ((5 * k + 461) % 153 / 5 + 1)
   unfolding count
   from-march h =
@@ -154,28 +157,20 @@ module _ (n C Z k : ℕ) (w : March (cycle + n) C Z k) where
       (second-sum _ _ k _ D (start-sum _ C Z k w) (r .0))
 
   from-either :
-      k ≤ 365 → (j : ℕ) → j ≡ newYear k →
-      dateAfter n ≡ public (100 * C + Z + j) ((5 * k + 461) / 153 - 12 * j) ((5 * k + 461) % 153 / 5 + 1)
-  from-either b j e = go (decLt k 306)
+      k ≤ 365 → dateAfter n ≡ public (100 * C + Z + newYear k) ((5 * k + 461) / 153 - 12 * newYear k) ((5 * k + 461) % 153 / 5 + 1)
+  from-either b = go (leb 306 k) refl
     where
-      go : Dec (k < 306) → dateAfter n ≡ public (100 * C + Z + j) ((5 * k + 461) / 153 - 12 * j) ((5 * k + 461) % 153 / 5 + 1)
-      go (yes h) =
-          let z : j ≡ 0 = e ∙ ap (λ t. cond t 0 1) (lt-ltb k 306 h) in
-          let p : 100 * C + Z ≡ 100 * C + Z + j = omega arith in
-          let q : (5 * k + 461) / 153 ≡ (5 * k + 461) / 153 - 12 * j = omega arith in
-          from-march h ∙ (λ i. public (p i) (q i) ((5 * k + 461) % 153 / 5 + 1))
-      go (no h) =
-          let z : j ≡ 1 = e ∙ ap (λ t. cond t 0 1) (le-ltb k 306 (omega arith)) in
-          let p : 100 * C + Z + 1 ≡ 100 * C + Z + j = omega arith in
-          let q : (5 * k + 461) / 153 - 12 ≡ (5 * k + 461) / 153 - 12 * j = omega arith in
-          from-january b (omega arith) ∙ (λ i. public (p i) (q i) ((5 * k + 461) % 153 / 5 + 1))
+      go : (t : Bool) → leb 306 k ≡ t →
+          dateAfter n ≡ public (100 * C + Z + boolByte t) ((5 * k + 461) / 153 - 12 * boolByte t) ((5 * k + 461) % 153 / 5 + 1)
+      go true e = from-january b (leb-true 306 k e)
+      go false e = rw (add-zero, sub-zero) (from-march (leb-false 306 k e))
 
 -- the algorithm's century, its day and so on, of the day n after the first
 abbrev pub centuryOf : ℕ → ℕ
-centuryOf n = (4 * (n + 146037) + 3) / 146097
+centuryOf n = (4 * (n + firstFromMarch) + 3) / cycle
 
 abbrev pub dayOfCentury : ℕ → ℕ
-dayOfCentury n = (4 * (n + 146037) + 3) % 146097 / 4
+dayOfCentury n = (4 * (n + firstFromMarch) + 3) % cycle / 4
 
 abbrev pub yearOfCentury : ℕ → ℕ
 yearOfCentury n = (4 * dayOfCentury n + 3) / 1461
@@ -183,15 +178,16 @@ yearOfCentury n = (4 * dayOfCentury n + 3) / 1461
 abbrev pub dayOfMarchYear : ℕ → ℕ
 dayOfMarchYear n = (4 * dayOfCentury n + 3) % 1461 / 4
 
-from-cycle : (n : ℕ) → cycle + n ≡ n + 146037 + 60
+from-cycle : (n : ℕ) → cycle + n ≡ n + firstFromMarch + 60
 from-cycle n = omega arith
 
 pub algorithm-3 :
-    (n j : ℕ) → j ≡ newYear (dayOfMarchYear n) →
-    dateAfter n ≡ public (100 * centuryOf n + yearOfCentury n + j) ((5 * dayOfMarchYear n + 461) / 153 - 12 * j)
+    (n : ℕ) →
+    dateAfter n
+    ≡ public (100 * centuryOf n + yearOfCentury n + newYear (dayOfMarchYear n)) ((5 * dayOfMarchYear n + 461) / 153 - 12 * newYear (dayOfMarchYear n))
     ((5 * dayOfMarchYear n + 461) % 153 / 5 + 1)
-algorithm-3 n j e =
-    let c = century (n + 146037) in
+algorithm-3 n =
+    let c = century (n + firstFromMarch) in
     let y = year (dayOfCentury n) (c .most) in
     from-either n (centuryOf n) (yearOfCentury n) (dayOfMarchYear n)
-    (march (cycle + n) (n + 146037) _ _ _ _ (from-cycle n) c y) (y .days) j e
+    (after-march (cycle + n) (n + firstFromMarch) _ _ _ _ (from-cycle n) c y) (y .days)

@@ -30,16 +30,16 @@ pub up-to : (P : ℕ → Type 0) (n : ℕ) → UpTo P n → (m : ℕ) → 1 ≤ 
 up-to P zero all m lo hi = absurd (omega arith)
 up-to P (suc n) all m lo hi = at-end P n m (all .1) (λ h. up-to P n (all .0) m lo h) hi
 
-pub months : (P : ℕ → Type 0) → UpTo P 12 → (m : ℕ) → 1 ≤ m → m ≤ 12 → P m
-months P = up-to P 12
+pub each-month : (P : ℕ → Type 0) → UpTo P 12 → (m : ℕ) → 1 ≤ m → m ≤ 12 → P m
+each-month P = up-to P 12
 
 pub length-positive : (l m : ℕ) → 1 ≤ m → m ≤ 12 → 1 ≤ monthDays l m
 unfolding monthDays
-length-positive l = months (λ m. 1 ≤ monthDays l m) (omega arith)
+length-positive l = each-month (λ m. 1 ≤ monthDays l m) (omega arith)
 
 pub length-le : (l m : ℕ) → l ≤ 1 → 1 ≤ m → m ≤ 12 → monthDays l m ≤ 31
 unfolding monthDays
-length-le l m h = months (λ m. monthDays l m ≤ 31) (omega arith) m
+length-le l m h = each-month (λ m. monthDays l m ≤ 31) (omega arith) m
 
 pub before-step : (l m : ℕ) → before l (m + 1) ≡ before l m + monthDays l m
 unfolding before
@@ -78,8 +78,8 @@ within-year l m d a b e f =
 -- the lengths of document 01 are those of the closed forms
 length-of : (t : Bool) (m : ℕ) → 1 ≤ m → m ≤ 12 → getD (monthLengths t) (m - 1) 0 ≡ monthDays (cond t 1 0) m
 unfolding monthLengths monthDays
-length-of true = months (λ m. getD (monthLengths true) (m - 1) 0 ≡ monthDays 1 m) (omega arith)
-length-of false = months (λ m. getD (monthLengths false) (m - 1) 0 ≡ monthDays 0 m) (omega arith)
+length-of true = each-month (λ m. getD (monthLengths true) (m - 1) 0 ≡ monthDays 1 m) (omega arith)
+length-of false = each-month (λ m. getD (monthLengths false) (m - 1) 0 ≡ monthDays 0 m) (omega arith)
 
 pub length-public : (y m : ℕ) → 1 ≤ m → m ≤ 12 → monthLength (baseYear +ℤ pos y) (pos m) ≡ pos (monthDays (leapDay y) m)
 unfolding monthLength leapDay
@@ -87,8 +87,8 @@ length-public y m lo hi = rw (leap-public y) (ap pos (length-of (leapℕ y) m lo
 
 before-of : (t : Bool) (m : ℕ) → 1 ≤ m → m ≤ 12 → sum (take (m - 1) (monthLengths t)) ≡ before (cond t 1 0) m
 unfolding monthLengths monthDays before
-before-of true = months (λ m. sum (take (m - 1) (monthLengths true)) ≡ before 1 m) (omega arith)
-before-of false = months (λ m. sum (take (m - 1) (monthLengths false)) ≡ before 0 m) (omega arith)
+before-of true = each-month (λ m. sum (take (m - 1) (monthLengths true)) ≡ before 1 m) (omega arith)
+before-of false = each-month (λ m. sum (take (m - 1) (monthLengths false)) ≡ before 0 m) (omega arith)
 
 pub before-public : (y m : ℕ) → 1 ≤ m → m ≤ 12 → sum (take (m - 1) (monthLengths (leapYear (baseYear +ℤ pos y)))) ≡ before (leapDay y) m
 unfolding leapDay
@@ -100,7 +100,7 @@ days-before = 0 ∷ 31 ∷ 59 ∷ 90 ∷ 120 ∷ 151 ∷ 181 ∷ 212 ∷ 243 ∷
 
 pub table-rule : (m : ℕ) → 1 ≤ m → m ≤ 12 → (getD days-before (m - 1) 0 ≡ before 0 m) × (before 0 m ≤ 334)
 unfolding days-before before monthDays
-table-rule = months (λ m. (getD days-before (m - 1) 0 ≡ before 0 m) × (before 0 m ≤ 334)) (omega arith)
+table-rule = each-month (λ m. (getD days-before (m - 1) 0 ≡ before 0 m) × (before 0 m ≤ 334)) (omega arith)
 
 -- the table of the days from 1 March to each month, and its rule
 unfoldable pub days-from-march : List ℕ
@@ -110,7 +110,7 @@ pub march-rule : (m : ℕ) → 3 ≤ m → m ≤ 14 → (getD days-from-march (m
 unfolding days-from-march
 march-rule m lo hi =
     subst (λ m. (getD days-from-march (m - 3) 0 ≡ fromMarch m) × (fromMarch m ≤ 337)) (omega arith)
-    (months (λ i. (getD days-from-march (i + 2 - 3) 0 ≡ fromMarch (i + 2)) × (fromMarch (i + 2) ≤ 337)) (omega arith) (m - 2) (omega arith) (omega arith))
+    (each-month (λ i. (getD days-from-march (i + 2 - 3) 0 ≡ fromMarch (i + 2)) × (fromMarch (i + 2) ≤ 337)) (omega arith) (m - 2) (omega arith) (omega arith))
 
 -- the leap day counts from March on
 pub before-early : (l m : ℕ) → 1 ≤ m → m < 3 → before l m ≡ before 0 m

@@ -22,16 +22,16 @@ within y m d v =
     (omega arith, omega (arith, start-step y, within-year (leapDay y) m d (v .month-low) (v .month-high) (v .day-low) (v .day-high)))
 
 -- the date y m d is earlier than y′ m′ d′
-pub data Before (y m d y′ m′ d′ : ℕ) : Type 0 where
-  in-year : y < y′ → Before y m d y′ m′ d′
-  in-month : y ≡ y′ → m < m′ → Before y m d y′ m′ d′
-  in-day : y ≡ y′ → m ≡ m′ → d < d′ → Before y m d y′ m′ d′
+pub data Precedes (y m d y′ m′ d′ : ℕ) : Type 0 where
+  in-year : y < y′ → Precedes y m d y′ m′ d′
+  in-month : y ≡ y′ → m < m′ → Precedes y m d y′ m′ d′
+  in-day : y ≡ y′ → m ≡ m′ → d < d′ → Precedes y m d y′ m′ d′
 
-pub before-less : (y m d y′ m′ d′ : ℕ) → Valid y m d → Valid y′ m′ d′ → Before y m d y′ m′ d′ → count y m d < count y′ m′ d′
+pub precedes-less : (y m d y′ m′ d′ : ℕ) → Valid y m d → Valid y′ m′ d′ → Precedes y m d y′ m′ d′ → count y m d < count y′ m′ d′
 unfolding count
-before-less y m d y′ m′ d′ v w (in-year h) =
+precedes-less y m d y′ m′ d′ v w (in-year h) =
     omega (arith, within y m d v .1, within y′ m′ d′ w .0, start-monotone (y + 1) y′ (omega arith))
-before-less y m d y′ m′ d′ v w (in-month p h) =
+precedes-less y m d y′ m′ d′ v w (in-month p h) =
     omega (
       arith,
       ap start p,
@@ -41,7 +41,7 @@ before-less y m d y′ m′ d′ v w (in-month p h) =
       v .day-low,
       v .day-high,
     )
-before-less y m d y′ m′ d′ v w (in-day p q h) = omega (arith, ap start p, ap₂ (λ y m. before (leapDay y) m) p q, v .day-low)
+precedes-less y m d y′ m′ d′ v w (in-day p q h) = omega (arith, ap start p, ap₂ (λ y m. before (leapDay y) m) p q, v .day-low)
 
 three-ways : (G : Type 0) (a b : ℕ) → (a < b → G) → (a ≡ b → G) → (b < a → G) → G
 three-ways G a b f g h = go (decLt a b) (decLt b a)
@@ -53,8 +53,8 @@ three-ways G a b f g h = go (decLt a b) (decLt b a)
 
 -- of two dates one is earlier, or they are equal
 pub trichotomy :
-    {G : Type 0} (y m d y′ m′ d′ : ℕ) → (Before y m d y′ m′ d′ → G) → (y ≡ y′ → m ≡ m′ → d ≡ d′ → G) →
-    (Before y′ m′ d′ y m d → G) → G
+    {G : Type 0} (y m d y′ m′ d′ : ℕ) → (Precedes y m d y′ m′ d′ → G) → (y ≡ y′ → m ≡ m′ → d ≡ d′ → G) →
+    (Precedes y′ m′ d′ y m d → G) → G
 trichotomy {G} y m d y′ m′ d′ f g h =
     three-ways G y y′ (λ a. f (in-year a))
     (λ p. three-ways G m m′ (λ a. f (in-month p a))

@@ -1,7 +1,7 @@
--- A count in the range and a shift of it: the tests that decide whether the sum is in the range, before it is taken.
+-- A count in the range and a shift of it: the test that decides whether the sum is in the range, before it is taken.
 use Prim.Native.Nat.{_<_, _^_}
 use mathlib.Core.Path.{_≡_, refl, sym, ap, ap₂, _∙_, subst}
-use mathlib.Core.Bool.{true, false}
+use mathlib.Core.Bool.{false, _||_}
 use native.Mathlib.Omega.{arith}
 use lib.Dec.{lit<}
 use lib.IntN.{ℤ, _+ℤ_, _-ℤ_}
@@ -10,12 +10,18 @@ use mir.Syntax.{w64}
 use mir.Val.{SFits}
 use mir.Facts.{toZ-ofZ}
 use Rattle.numbers.specs.Range.{outside, since}
-use Rattle.numbers.proofs.Integers.{lt-shift, add-difference, add-since, since-le, below-outside, above-outside, not-outside, outside-no}
+use Rattle.numbers.proofs.Integers.{lt-shift, add-difference, add-since, since-le, outside-no}
 use Rattle.numbers.proofs.Machine.{read, sub-fits, mag-since}
 use Rattle.calendar.specs.Range.{firstCount, lastCount}
 
+-- a sum lies in a range exactly if the second number lies in the range less the first
+outside-shift : (first last z p : ℤ) → outside (first -ℤ z) (last -ℤ z) p ≡ outside first last (z +ℤ p)
+outside-shift first last z p =
+    ap₂ _||_ (sym (lt-shift z p (first -ℤ z)) ∙ ap (ltZ (z +ℤ p)) (add-difference z first))
+    (sym (lt-shift z (last -ℤ z) p) ∙ ap (λ l. ltZ l (z +ℤ p)) (add-difference z last))
+
 -- a count in the range is small
-pub count-small : (z : ℤ) → outside firstCount lastCount z ≡ false → mag z < 2 ^ 61
+count-small : (z : ℤ) → outside firstCount lastCount z ≡ false → mag z < 2 ^ 61
 count-small z h =
     let t = outside-no firstCount lastCount z h in
     let l = since-le firstCount lastCount refl z (t .0) (t .1) in
@@ -24,40 +30,33 @@ count-small z h =
 pub count-fits : (z : ℤ) → outside firstCount lastCount z ≡ false → SFits w64 z
 count-fits z h = let l = count-small z h in record { sfits = omega arith }
 
-module _ (z p : ℤ) (in-range : outside firstCount lastCount z ≡ false) (f : SFits w64 z) (g : SFits w64 p) where
+module _ (z p : ℤ) (in-range : outside firstCount lastCount z ≡ false) (g : SFits w64 p) where
+  f : SFits w64 z
+  f = count-fits z in-range
+
+  -- an end of the range, less the count
+  less : (end : ℤ) → mag end < 2 ^ 61 → SFits w64 (end -ℤ read z)
+  less end small = subst (λ (y : ℤ). SFits w64 (end -ℤ y)) (sym (toZ-ofZ f)) (sub-fits end z small (count-small z in-range))
+
   pub first-subtracts : SFits w64 (firstCount -ℤ read z)
-  first-subtracts = subst (λ (y : ℤ). SFits w64 (firstCount -ℤ y)) (sym (toZ-ofZ f)) (sub-fits firstCount z (lit< tt) (count-small z in-range))
+  first-subtracts = less firstCount (lit< tt)
 
   pub last-subtracts : SFits w64 (lastCount -ℤ read z)
-  last-subtracts = subst (λ (y : ℤ). SFits w64 (lastCount -ℤ y)) (sym (toZ-ofZ f)) (sub-fits lastCount z (lit< tt) (count-small z in-range))
+  last-subtracts = less lastCount (lit< tt)
 
-  -- the tests on the shift are tests on the sum
-  low : ltZ (read p) (read (firstCount -ℤ read z)) ≡ ltZ (z +ℤ p) firstCount
-  low =
-      ap₂ ltZ (toZ-ofZ g) (toZ-ofZ first-subtracts ∙ ap (λ (y : ℤ). firstCount -ℤ y) (toZ-ofZ f)) ∙ sym (lt-shift z p (firstCount -ℤ z))
-      ∙ ap (ltZ (z +ℤ p)) (add-difference z firstCount)
+  -- the test of the shift is that of the sum
+  pub sum-tested : outside firstCount lastCount (z +ℤ p) ≡ outside (read (firstCount -ℤ read z)) (read (lastCount -ℤ read z)) (read p)
+  sum-tested =
+      sym (outside-shift firstCount lastCount z p)
+      ∙ (λ i. outside (firstCount -ℤ sym (toZ-ofZ f) i) (lastCount -ℤ sym (toZ-ofZ f) i) (sym (toZ-ofZ g) i))
+      ∙ (λ i. outside (sym (toZ-ofZ first-subtracts) i) (sym (toZ-ofZ last-subtracts) i) (read p))
 
-  high : ltZ (read (lastCount -ℤ read z)) (read p) ≡ ltZ lastCount (z +ℤ p)
-  high =
-      ap₂ ltZ (toZ-ofZ last-subtracts ∙ ap (λ (y : ℤ). lastCount -ℤ y) (toZ-ofZ f)) (toZ-ofZ g) ∙ sym (lt-shift z (lastCount -ℤ z) p)
-      ∙ ap (λ (y : ℤ). ltZ y (z +ℤ p)) (add-difference z lastCount)
+  sum-read : read z +ℤ read p ≡ z +ℤ p
+  sum-read = ap₂ _+ℤ_ (toZ-ofZ f) (toZ-ofZ g)
 
-  pub too-early : ltZ (read p) (read (firstCount -ℤ read z)) ≡ true → outside firstCount lastCount (z +ℤ p) ≡ true
-  too-early lo = below-outside firstCount lastCount (z +ℤ p) (sym low ∙ lo)
+  module _ (h : outside firstCount lastCount (z +ℤ p) ≡ false) where
+    pub sum-fits : SFits w64 (read z +ℤ read p)
+    sum-fits = subst (SFits w64) (sym sum-read) (count-fits (z +ℤ p) h)
 
-  module _ (lo : ltZ (read p) (read (firstCount -ℤ read z)) ≡ false) where
-    pub too-late : ltZ (read (lastCount -ℤ read z)) (read p) ≡ true → outside firstCount lastCount (z +ℤ p) ≡ true
-    too-late hi = above-outside firstCount lastCount (z +ℤ p) (sym low ∙ lo) (sym high ∙ hi)
-
-    module _ (hi : ltZ (read (lastCount -ℤ read z)) (read p) ≡ false) where
-      pub sum-inside : outside firstCount lastCount (z +ℤ p) ≡ false
-      sum-inside = not-outside firstCount lastCount (z +ℤ p) (sym low ∙ lo) (sym high ∙ hi)
-
-      pub sum-read : read z +ℤ read p ≡ z +ℤ p
-      sum-read = ap₂ _+ℤ_ (toZ-ofZ f) (toZ-ofZ g)
-
-      pub sum-fits : SFits w64 (read z +ℤ read p)
-      sum-fits = subst (SFits w64) (sym sum-read) (count-fits (z +ℤ p) sum-inside)
-
-      pub sum-is : read (read z +ℤ read p) ≡ z +ℤ p
-      sum-is = toZ-ofZ sum-fits ∙ sum-read
+    pub sum-is : read (read z +ℤ read p) ≡ z +ℤ p
+    sum-is = toZ-ofZ sum-fits ∙ sum-read

@@ -1,4 +1,4 @@
--- The calendar by steps is the closed forms: the date n days after the first is the one date with the day number 146097 + n.
+-- The calendar by steps is the closed forms: the date n days after the first is the one date with the day number cycle + n.
 use Prim.Native.Nat.{ℕ, zero, suc, _+_, _≤_, _<_}
 use mathlib.Core.Path.{_≡_, refl, sym, ap, _∙_, subst}
 use mathlib.Core.Bool.{Bool, true, false, _&&_}
@@ -13,9 +13,9 @@ use Rattle.calendar.specs.declared.Date.{Date}
 use Rattle.calendar.specs.Range.{firstCount}
 use Rattle.calendar.specs.Gregorian.{date, nextDay, firstDate, dateAfter}
 use Rattle.calendar.specs.Count.{sameDate, daysUntil, countOfDate}
-use Rattle.calendar.specs.Closed.{fromYear, toYear, baseYear, cycle, lastDay, leapDay, leapℕ, leaps, start, monthDays, before, Valid, count, public}
+use Rattle.calendar.specs.Closed.{fromYear, toYear, baseYear, cycle, lastDay, leapDay, leapℕ, leaps, start, monthDays, before, Valid, InRange, count, public}
 use Rattle.calendar.proofs.Months.{length-positive, before-step, before-first, year-end, length-public}
-use Rattle.calendar.proofs.Order.{start-step, start-monotone, within, before-less, trichotomy}
+use Rattle.calendar.proofs.Order.{start-step, start-monotone, within, precedes-less, trichotomy}
 
 -- the three cases of the day after
 next-in-month : (y m d : ℕ) → 1 ≤ m → m ≤ 12 → d < monthDays (leapDay y) m → nextDay (public y m d) ≡ public y m (d + 1)
@@ -33,7 +33,7 @@ next-of-years y d h =
     (ap (λ z. date z (pos 1) (pos 1)) (+ℤ-assoc baseYear (pos y) (pos 1)))
 
 -- the date n days after the first, in natural numbers
-pub record At (n : ℕ) : Type 0 where
+pub record DateAt (n : ℕ) : Type 0 where
   pub year : ℕ
   pub month : ℕ
   pub day : ℕ
@@ -41,11 +41,11 @@ pub record At (n : ℕ) : Type 0 where
   pub number : count year month day ≡ cycle + n
   pub is : dateAfter n ≡ public year month day
 
-at-first : At 0
+at-first : DateAt 0
 unfolding dateAfter count start leaps leapDay leapℕ before monthDays
 at-first =
     record {
-      year = 400;
+      year = fromYear;
       month = 1;
       day = 1;
       valid = record { month-low = omega arith; month-high = omega arith; day-low = omega arith; day-high = omega arith };
@@ -84,9 +84,9 @@ after-years y d v h = (
   omega (arith, year-end (leapDay y) 12 refl, before-first (leapDay (y + 1)), start-step y, v .day-low, v .day-high),
 )
 
-module _ (n : ℕ) (a : At n) where
+module _ (n : ℕ) (a : DateAt n) where
   next-at : (y m d : ℕ) → Valid y m d × (count y m d ≡ count (a .year) (a .month) (a .day) + 1) →
-      nextDay (public (a .year) (a .month) (a .day)) ≡ public y m d → At (suc n)
+      nextDay (public (a .year) (a .month) (a .day)) ≡ public y m d → DateAt (suc n)
   unfolding dateAfter
   next-at y m d v e =
       record {
@@ -98,10 +98,10 @@ module _ (n : ℕ) (a : At n) where
         is = ap nextDay (a .is) ∙ e;
       }
 
-  at-next : At (suc n)
+  at-next : DateAt (suc n)
   at-next = by-length (decLt (a .day) (monthDays (leapDay (a .year)) (a .month)))
     where
-      last-month : monthDays (leapDay (a .year)) (a .month) ≤ a .day → (a .month ≡ 12) → At (suc n)
+      last-month : monthDays (leapDay (a .year)) (a .month) ≤ a .day → (a .month ≡ 12) → DateAt (suc n)
       last-month h e =
           let v : Valid (a .year) 12 (a .day) = subst (λ m. Valid (a .year) m (a .day)) e (a .valid) in
           let l : monthDays (leapDay (a .year)) 12 ≤ a .day = subst (λ m. monthDays (leapDay (a .year)) m ≤ a .day) e h in
@@ -110,28 +110,28 @@ module _ (n : ℕ) (a : At n) where
           (w .0, w .1 ∙ ap (λ m. count (a .year) m (a .day) + 1) (sym e))
           (ap (λ m. nextDay (public (a .year) m (a .day))) e ∙ next-of-years (a .year) (a .day) l)
 
-      by-month : monthDays (leapDay (a .year)) (a .month) ≤ a .day → Dec (a .month < 12) → At (suc n)
+      by-month : monthDays (leapDay (a .year)) (a .month) ≤ a .day → Dec (a .month < 12) → DateAt (suc n)
       by-month h (yes k) =
           next-at (a .year) (a .month + 1) 1 (after-year (a .year) (a .month) (a .day) (a .valid) k h)
           (next-in-year (a .year) (a .month) (a .day) (a .valid .month-low) k h)
       by-month h (no k) = last-month h (omega (arith, a .valid .month-high))
 
-      by-length : Dec (a .day < monthDays (leapDay (a .year)) (a .month)) → At (suc n)
+      by-length : Dec (a .day < monthDays (leapDay (a .year)) (a .month)) → DateAt (suc n)
       by-length (yes h) =
           next-at (a .year) (a .month) (a .day + 1) (after-month (a .year) (a .month) (a .day) (a .valid) h)
           (next-in-month (a .year) (a .month) (a .day) (a .valid .month-low) (a .valid .month-high) h)
       by-length (no h) = by-month (omega arith) (decLt (a .month) 12)
 
-pub at : (n : ℕ) → At n
+pub at : (n : ℕ) → DateAt n
 at zero = at-first
 at (suc n) = at-next n (at n)
 
 -- a number has one date
 pub unique : (y m d y′ m′ d′ : ℕ) → Valid y m d → Valid y′ m′ d′ → count y m d ≡ count y′ m′ d′ → public y m d ≡ public y′ m′ d′
 unique y m d y′ m′ d′ v w p =
-    trichotomy y m d y′ m′ d′ (λ a. absurd (omega (arith, before-less y m d y′ m′ d′ v w a)))
+    trichotomy y m d y′ m′ d′ (λ a. absurd (omega (arith, precedes-less y m d y′ m′ d′ v w a)))
     (λ q r s. λ i. public (q i) (r i) (s i))
-    (λ a. absurd (omega (arith, before-less y′ m′ d′ y m d w v a)))
+    (λ a. absurd (omega (arith, precedes-less y′ m′ d′ y m d w v a)))
 
 -- whoever finds a valid date with the right number has found the date
 pub found : (n y m d : ℕ) → Valid y m d → count y m d ≡ cycle + n → dateAfter n ≡ public y m d
@@ -195,23 +195,27 @@ unfolding countOfDate
 count-after n h = ap (λ k. firstCount +ℤ pos k) (from-first lastDay n ∙ until lastDay 0 n h)
 
 -- the years of the range, counted from baseYear, and their days
-start-first : start 400 ≡ cycle
+start-first : start fromYear ≡ cycle
 unfolding start leaps
 start-first = refl
 
-start-end : start 10400 ≡ cycle + (lastDay + 1)
+start-end : start (toYear + 1) ≡ cycle + (lastDay + 1)
 unfolding start leaps
 start-end = refl
 
-pub in-range : (y m d : ℕ) → Valid y m d → fromYear ≤ y → y ≤ toYear → (cycle ≤ count y m d) × (count y m d ≤ cycle + lastDay)
-in-range y m d v lo hi =
-    let w = within y m d v in
-    (omega (arith, start-first, start-monotone 400 y lo, w .0), omega (arith, start-end, start-monotone (y + 1) 10400 (omega arith), w .1))
-
-pub range-years : (n : ℕ) → n ≤ lastDay → (fromYear ≤ at n .year) × (at n .year ≤ toYear)
-range-years n h =
-    let a = at n in
-    let w = within (a .year) (a .month) (a .day) (a .valid) in (
-      by-contra _ _ (λ k. omega (arith, a .number, start-first, start-monotone (a .year + 1) 400 (omega arith), w .1)),
-      by-contra _ _ (λ k. omega (arith, a .number, start-end, start-monotone 10400 (a .year) (omega arith), w .0)),
+pub count-in-range : (y m d : ℕ) → InRange y m d → (cycle ≤ count y m d) × (count y m d ≤ cycle + lastDay)
+count-in-range y m d r =
+    let w = within y m d (r .valid) in (
+      omega (arith, start-first, start-monotone fromYear y (r .from), w .0),
+      omega (arith, start-end, start-monotone (y + 1) (toYear + 1) (omega (arith, r .to)), w .1),
     )
+
+pub at-in-range : (n : ℕ) → n ≤ lastDay → InRange (at n .year) (at n .month) (at n .day)
+at-in-range n h =
+    let a = at n in
+    let w = within (a .year) (a .month) (a .day) (a .valid) in
+    record {
+      valid = a .valid;
+      from = by-contra _ _ (λ k. omega (arith, a .number, start-first, start-monotone (a .year + 1) fromYear (omega arith), w .1));
+      to = by-contra _ _ (λ k. omega (arith, a .number, start-end, start-monotone (toYear + 1) (a .year) (omega arith), w .0));
+    }

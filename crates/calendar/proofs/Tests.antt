@@ -15,30 +15,39 @@ use Rattle.calendar.specs.Range.{firstYear, lastYear}
 use Rattle.calendar.specs.Gregorian.{monthLength, date, ValidDate}
 use Rattle.calendar.specs.Answers.{lastDayAnswer, ofDate, daysAnswer}
 
--- year and month: both tests pass where there is a value
-two-tests : (a b : Bool) (x : ℤ) {n : ℤ} → value n ≡ cond a (refused 1) (cond b (refused 2) (value x)) → (a ≡ false) × ((b ≡ false) × (n ≡ x))
-two-tests true b x e = absurd (let z : _≡_ {A = ℕ} 0 1 = cc in omega arith)
-two-tests false true x e = absurd (let z : _≡_ {A = ℕ} 0 1 = cc in omega arith)
-two-tests false false x e = (refl, (refl, cc))
+-- a test in front of an outcome: where there is a value the test passed, and a refusal asks nothing of the value behind the tests
+pub passes : {A : Type 0} (t : Bool) (k : ℕ) (o : Outcome A) {z : A} → value z ≡ cond t (refused k) o → (t ≡ false) × (value z ≡ o)
+passes true k o e = absurd (let z : _≡_ {A = ℕ} 0 1 = cc in omega arith)
+passes false k o e = (refl, e)
 
+pub refuses :
+    {A B : Type 0} (t : Bool) (k : ℕ) (o : Outcome A) (p : Outcome B) {n : ℕ} → (refused n ≡ o → refused n ≡ p) →
+    refused n ≡ cond t (refused k) o → refused n ≡ cond t (refused k) p
+refuses true k o p f e = cc
+refuses false k o p f e = f e
+
+pub not-refused : {A B : Type 0} (x : A) (p : Outcome B) {n : ℕ} → refused n ≡ value x → refused n ≡ p
+not-refused x p e = absurd (let z : _≡_ {A = ℕ} 0 1 = cc in omega arith)
+
+pub same-value : {A : Type 0} {x y : A} → value x ≡ value y → x ≡ y
+same-value e = cc
+
+-- year and month
 pub month-accepted :
     (year month n : ℤ) → value n ≡ lastDayAnswer year month →
     (outside firstYear lastYear year ≡ false) × ((outside (pos 1) (pos 12) month ≡ false) × (n ≡ monthLength year month))
 unfolding lastDayAnswer
-month-accepted year month n = two-tests (outside firstYear lastYear year) (outside (pos 1) (pos 12) month) (monthLength year month)
-
-two-refusals :
-    {A : Type 0} (a b : Bool) (x : ℤ) (y : Outcome A) {k : ℕ} → refused k ≡ cond a (refused 1) (cond b (refused 2) (value x)) →
-    refused k ≡ cond a (refused 1) (cond b (refused 2) y)
-two-refusals true b x y e = cc
-two-refusals false true x y e = cc
-two-refusals false false x y e = absurd (let z : _≡_ {A = ℕ} 0 1 = cc in omega arith)
+month-accepted year month n e =
+    let a = passes (outside firstYear lastYear year) 1 _ e in
+    let b = passes (outside (pos 1) (pos 12) month) 2 _ (a .1) in
+    (a .0, (b .0, same-value (b .1)))
 
 pub month-refused :
     {A : Type 0} (year month day : ℤ) (f : Date → Outcome A) (k : ℕ) → refused k ≡ lastDayAnswer year month →
     refused k ≡ ofDate year month day f
 unfolding lastDayAnswer ofDate
-month-refused year month day f k = two-refusals (outside firstYear lastYear year) (outside (pos 1) (pos 12) month) _ _
+month-refused year month day f k =
+    refuses (outside firstYear lastYear year) 1 _ _ (refuses (outside (pos 1) (pos 12) month) 2 _ _ (not-refused _ _))
 
 -- the day, after year and month
 pub day-decides :
@@ -54,23 +63,17 @@ valid-answer d f v =
     day-decides (d .year) (d .month) (d .day) f (v .year-inside) (v .month-inside)
     ∙ ap (λ t. cond t (refused 3) (f d)) (v .day-inside)
 
--- the three tests pass where there is a value
-three-tests :
-    {B : Type 0} (a b c : Bool) (x : B) {z : B} → value z ≡ cond a (refused 1) (cond b (refused 2) (cond c (refused 3) (value x))) →
-    (a ≡ false) × ((b ≡ false) × ((c ≡ false) × (z ≡ x)))
-three-tests true b c x h = absurd (let z : _≡_ {A = ℕ} 0 1 = cc in omega arith)
-three-tests false true c x h = absurd (let z : _≡_ {A = ℕ} 0 1 = cc in omega arith)
-three-tests false false true x h = absurd (let z : _≡_ {A = ℕ} 0 1 = cc in omega arith)
-three-tests false false false x h = (refl, (refl, (refl, cc)))
-
+-- a date that has an answer
 module _ {B : Type 0} (year month day : ℤ) (g : Date → B) (z : B) (h : value z ≡ ofDate year month day (λ d. value (g d))) where
   passed :
       (outside firstYear lastYear year ≡ false) × ((outside (pos 1) (pos 12) month ≡ false)
       × ((outside (pos 1) (monthLength year month) day ≡ false) × (z ≡ g (date year month day))))
   unfolding ofDate
   passed =
-      three-tests (outside firstYear lastYear year) (outside (pos 1) (pos 12) month) (outside (pos 1) (monthLength year month) day)
-      (g (date year month day)) h
+      let a = passes (outside firstYear lastYear year) 1 _ h in
+      let b = passes (outside (pos 1) (pos 12) month) 2 _ (a .1) in
+      let c = passes (outside (pos 1) (monthLength year month) day) 3 _ (b .1) in
+      (a .0, (b .0, (c .0, same-value (c .1))))
 
   pub accepted-valid : ValidDate (date year month day)
   accepted-valid = record { year-inside = passed .0; month-inside = passed .1 .0; day-inside = passed .1 .1 .0 }
@@ -81,23 +84,14 @@ module _ {B : Type 0} (year month day : ℤ) (g : Date → B) (z : B) (h : value
   pub accepted-answer : {A : Type 0} (f : Date → Outcome A) → ofDate year month day f ≡ f (date year month day)
   accepted-answer f = valid-answer (date year month day) f accepted-valid
 
-three-refusals :
-    {A B : Type 0} (a b c : Bool) (x : B) (y : Outcome A) {k : ℕ} →
-    refused k ≡ cond a (refused 1) (cond b (refused 2) (cond c (refused 3) (value x))) →
-    refused k ≡ cond a (refused 1) (cond b (refused 2) (cond c (refused 3) y))
-three-refusals true b c x y h = cc
-three-refusals false true c x y h = cc
-three-refusals false false true x y h = cc
-three-refusals false false false x y h = absurd (let z : _≡_ {A = ℕ} 0 1 = cc in omega arith)
-
 -- a refused date is refused alike by every call
 pub date-refused :
     {A B : Type 0} (year month day : ℤ) (g : Date → B) (k : ℕ) (f : Date → Outcome A) →
     refused k ≡ ofDate year month day (λ d. value (g d)) → refused k ≡ ofDate year month day f
 unfolding ofDate
 date-refused year month day g k f =
-    three-refusals (outside firstYear lastYear year) (outside (pos 1) (pos 12) month) (outside (pos 1) (monthLength year month) day)
-    (g (date year month day)) (f (date year month day))
+    refuses (outside firstYear lastYear year) 1 _ _
+    (refuses (outside (pos 1) (pos 12) month) 2 _ _ (refuses (outside (pos 1) (monthLength year month) day) 3 _ _ (not-refused _ _)))
 
 -- three locals hold the numbers that they were given
 module _ {year month day : ℤ} (p : SFits w64 year) (q : SFits w64 month) (r : SFits w64 day) where

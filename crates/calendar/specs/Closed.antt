@@ -1,36 +1,46 @@
 -- Closed forms on natural numbers, for proofs and private contracts only: nobody has to believe them. They are shown equal to the
--- calendar by steps in proofs/Steps.antt. Years are counted from `baseYear`, 400 years before the first, so that the computational
+-- calendar by steps in proofs/Steps.antt. Years are counted from `baseYear`, one cycle before the first, so that the computational
 -- calendar of source document 000, section 6, whose years begin in March, needs no number below zero.
 use Prim.Native.Nat.{ℕ, zero, suc, _+_, _-_, _*_, _/_, _%_, _≤_}
 use mathlib.Core.Bool.{Bool, cond, not, _&&_}
 use mathlib.Core.List.{[], _∷_}
-use lib.Dec.{eqb, ltb}
-use lib.IntN.{ℤ, pos, negsuc, _+ℤ_}
+use lib.Dec.{eqb, leb}
+use lib.IntN.{ℤ, pos, _+ℤ_, _-ℤ_}
 use lib.ListN.{getD}
+use mir.Val.{boolByte}
+use Rattle.numbers.specs.Range.{since}
+use Rattle.calendar.specs.Range.{firstYear, lastYear, firstCount, lastCount}
 use Rattle.calendar.specs.Gregorian.{date}
 use Rattle.calendar.specs.declared.Date.{Date}
 
-abbrev pub baseYear : ℤ
-baseYear = negsuc 399
+-- the years and the days after which the calendar repeats itself
+abbrev pub cycleYears : ℕ
+cycleYears = 400
 
--- the count of 1 January of baseYear
-abbrev pub baseCount : ℤ
-baseCount = negsuc 865624
-
--- the first and the last year of the range, counted from baseYear
-abbrev pub fromYear : ℕ
-fromYear = 400
-
-abbrev pub toYear : ℕ
-toYear = 10399
-
--- the days of 400 years
 abbrev pub cycle : ℕ
 cycle = 146097
 
+abbrev pub baseYear : ℤ
+baseYear = firstYear -ℤ pos cycleYears
+
+-- the count of 1 January of baseYear
+abbrev pub baseCount : ℤ
+baseCount = firstCount -ℤ pos cycle
+
+-- the first and the last year of the range, counted from baseYear
+abbrev pub fromYear : ℕ
+fromYear = since baseYear firstYear
+
+abbrev pub toYear : ℕ
+toYear = since baseYear lastYear
+
 -- the last day of the range, counted from its first
 abbrev pub lastDay : ℕ
-lastDay = 3652424
+lastDay = since firstCount lastCount
+
+-- the first day of the range, counted from 1 March of baseYear: January and February of a leap year have 60 days
+abbrev pub firstFromMarch : ℕ
+firstFromMarch = cycle - 60
 
 -- whether the year baseYear + y is leap
 unfoldable pub leapℕ : ℕ → Bool
@@ -64,6 +74,12 @@ pub record Valid (y m d : ℕ) : Type 0 where
   pub day-low : 1 ≤ d
   pub day-high : d ≤ monthDays (leapDay y) m
 
+-- and the year is one of the range
+pub record InRange (y m d : ℕ) : Type 0 where
+  pub valid : Valid y m d
+  pub from : fromYear ≤ y
+  pub to : y ≤ toYear
+
 -- the day of a date, counted from 1 January of baseYear
 unfoldable pub count : (y m d : ℕ) → ℕ
 count y m d = start y + before (leapDay y) m + (d - 1)
@@ -74,7 +90,7 @@ public y m d = date (baseYear +ℤ pos y) (pos m) (pos d)
 
 -- 1 for the days of January and February, the last of a year that begins on 1 March: Remark 1 of source document 000
 abbrev pub newYear : ℕ → ℕ
-newYear k = cond (ltb k 306) 0 1
+newYear k = boolByte (leb 306 k)
 
 -- the days from 1 March to the first of month m, where 13 and 14 are January and February: equation (10) of source document 000
 abbrev pub fromMarch : ℕ → ℕ
@@ -82,4 +98,4 @@ fromMarch m = (153 * m - 457) / 5
 
 -- 1 in January and February, else 0
 abbrev pub beforeMarch : ℕ → ℕ
-beforeMarch m = cond (ltb m 3) 1 0
+beforeMarch m = boolByte (leb m 2)

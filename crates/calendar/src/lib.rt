@@ -23,16 +23,16 @@ pub mod range;
 mod year;
 
 ghost use mathlib.Core.Path.{_≡_};
-ghost use mathlib.Core.Bool.{false, cond};
+ghost use mathlib.Core.Bool.{false};
 ghost use Prim.Native.Nat.{_≤_};
 ghost use lib.IntN.{pos, _+ℤ_};
-ghost use Rattle.numbers.specs.Range.{outside, since, eqZ};
+ghost use Rattle.numbers.specs.Range.{outside, since};
 ghost use Rattle.refusal.specs.Outcome.{value, numberOutcome};
 ghost use Rattle.calendar.specs.Range.{firstYear, lastYear, firstCount, lastCount};
 ghost use Rattle.calendar.specs.Count.{dateOfCount};
 ghost use Rattle.calendar.specs.Answers.{dateOutcome, flagOutcome, leapAnswer, lastDayAnswer, ofDate, daysAnswer, dayOfYearAnswer, civilAnswer, weekdayAnswer, addDaysAnswer};
 ghost use Rattle.calendar.specs.Closed.{fromYear, toYear, baseYear, lastDay};
-ghost use Rattle.calendar.specs.Checked.{checkedOutcome, CheckedValid, commonLength};
+ghost use Rattle.calendar.specs.Checked.{checkedOutcome, CheckedInRange, commonLength};
 
 pub struct Date {
     pub year: i64,
@@ -55,7 +55,7 @@ pub fn days_from_civil(year: i64, month: i64, day: i64) -> NumberAnswer
     ensures { λ r. ⌜ numberOutcome r ≡ daysAnswer year month day ⌝ }
 {
     match check_date(year, month, day) {
-        Checked::Date(y, m, d) => NumberAnswer::Value(
+        Checked::Accepted(y, m, d) => NumberAnswer::Value(
             convert::days_since_base(y, m, d) as i64 + BASE_COUNT,
         ),
         Checked::Refused(r) => NumberAnswer::Refused(r),
@@ -79,7 +79,7 @@ pub fn weekday_from_days(days: i64) -> NumberAnswer
     if numbers::outside(FIRST_COUNT, LAST_COUNT, days) {
         return NumberAnswer::Refused(Refusal::OutOfRange);
     }
-    NumberAnswer::Value(((days_from_first(days) + FIRST_WEEKDAY) % 7) as i64)
+    NumberAnswer::Value(((FIRST_WEEKDAY + days_from_first(days)) % 7) as i64)
 }
 
 // Whether a year is leap.
@@ -102,7 +102,7 @@ pub fn last_day_of_month(year: i64, month: i64) -> NumberAnswer
     match common_length(month) {
         NumberAnswer::Value(length) => {
             let leap = year::leap_day(years_from_base(year));
-            NumberAnswer::Value(length + in_february(month, leap) as i64)
+            NumberAnswer::Value(length + ((month == 2) as u32 * leap) as i64)
         }
         NumberAnswer::Refused(r) => NumberAnswer::Refused(r),
     }
@@ -113,7 +113,9 @@ pub fn day_of_year(year: i64, month: i64, day: i64) -> NumberAnswer
     ensures { λ r. ⌜ numberOutcome r ≡ dayOfYearAnswer year month day ⌝ }
 {
     match check_date(year, month, day) {
-        Checked::Date(y, m, d) => NumberAnswer::Value((year::days_before_month(y, m) + d) as i64),
+        Checked::Accepted(y, m, d) => NumberAnswer::Value(
+            (year::days_before_month(y, m) + d) as i64,
+        ),
         Checked::Refused(r) => NumberAnswer::Refused(r),
     }
 }
@@ -124,10 +126,7 @@ pub fn add_days(year: i64, month: i64, day: i64, days: i64) -> DateAnswer
 {
     match days_from_civil(year, month, day) {
         NumberAnswer::Value(count) => {
-            if days < FIRST_COUNT - count {
-                return DateAnswer::Refused(Refusal::OutOfRange);
-            }
-            if days > LAST_COUNT - count {
+            if numbers::outside(FIRST_COUNT - count, LAST_COUNT - count, days) {
                 return DateAnswer::Refused(Refusal::OutOfRange);
             }
             DateAnswer::Value(date_of_count(count + days))
@@ -149,31 +148,21 @@ fn common_length(month: i64) -> NumberAnswer
     }
 }
 
-// The leap days of a year that fall into a month.
-fn in_february(month: i64, leap: u32) -> u32
-    ensures { λ r. ⌜ r ≡ cond (eqZ month (pos 2)) leap 0 ⌝ }
-{
-    if month == 2 { leap } else { 0 }
-}
-
 // A tested date, its year counted from BASE_YEAR.
 enum Checked {
-    Date(u32, u32, u32),
+    Accepted(u32, u32, u32),
     Refused(Refusal),
 }
 
 fn check_date(year: i64, month: i64, day: i64) -> Checked
-    ensures { λ r. ⌜ (checkedOutcome r ≡ ofDate year month day value) × CheckedValid r ⌝ }
+    ensures { λ r. ⌜ (checkedOutcome r ≡ ofDate year month day value) × CheckedInRange r ⌝ }
 {
     match last_day_of_month(year, month) {
         NumberAnswer::Value(length) => {
-            if day < 1 {
+            if numbers::outside(1, length, day) {
                 return Checked::Refused(Refusal::DayOutOfRange);
             }
-            if day > length {
-                return Checked::Refused(Refusal::DayOutOfRange);
-            }
-            Checked::Date(years_from_base(year), month as u32, day as u32)
+            Checked::Accepted(years_from_base(year), month as u32, day as u32)
         }
         NumberAnswer::Refused(r) => Checked::Refused(r),
     }

@@ -2,7 +2,7 @@
 
 ghost use mathlib.Core.Path.{_≡_};
 ghost use Prim.Native.Nat.{_≤_, _%_};
-ghost use Rattle.calendar.specs.Closed.{leapDay, before, fromMarch, beforeMarch};
+ghost use Rattle.calendar.specs.Closed.{leapDay, before, fromMarch};
 
 // Days before each month in a common year: document 01, "Calendar rules".
 const DAYS_BEFORE: [u16; 12] = [0, 31, 59, 90, 120, 151, 181, 212, 243, 273, 304, 334];
@@ -14,7 +14,7 @@ const DAYS_FROM_MARCH: [u16; 12] = [0, 31, 61, 92, 122, 153, 184, 214, 245, 275,
 pub fn leap_day(y: u32) -> u32
     ensures { λ r. ⌜ (r ≡ leapDay y) × (r ≤ 1) ⌝ }
 {
-    if leap_rest(y) == 0 { 1 } else { 0 }
+    (leap_rest(y) == 0) as u32
 }
 
 // What is left of the year after division by 4, or by 16 where 25 divides it.
@@ -41,13 +41,6 @@ pub fn days_from_march(m: u32) -> u32
 {
     let at = (m - 3) as usize;
     DAYS_FROM_MARCH[at] as u32
-}
-
-// 1 in January and February, else 0.
-pub fn before_march(m: u32) -> u32
-    ensures { λ r. ⌜ (r ≡ beforeMarch m) × (r ≤ 1) ⌝ }
-{
-    if m <= 2 { 1 } else { 0 }
 }
 
 // The days before month m of the year y.

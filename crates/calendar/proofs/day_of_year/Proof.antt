@@ -8,7 +8,8 @@ use mir.Facts.{toZ-pos}
 use Rattle.refusal.specs.Outcome.{value}
 use Rattle.calendar.specs.Count.{dayOfYear}
 use Rattle.calendar.specs.Answers.{dayOfYearAnswer}
-use Rattle.calendar.specs.Checked.{CheckedValid}
+use Rattle.calendar.specs.Checked.{CheckedInRange}
+use Rattle.calendar.specs.Closed.{InRange}
 use Rattle.calendar.proofs.Dates.{day-small, year-day, checked-value, checked-refused}
 use Rattle.calendar.proofs.day_of_year.Statement.{statement}
 use Rattle.calendar.proofs.day_of_year.Tie as tie
@@ -19,15 +20,14 @@ check-date-requires c κs = search needs
 enum-known-y : tie.Need-enum-known-y
 enum-known-y c = search needs
 
+in-range : (c : tie.After-known-told) → let g = c .before .y .given .0 in InRange (g .0) (g .1 .0) (g .1 .1 .0)
+in-range c = subst CheckedInRange (c .before .y .given .1) (c .before .before .before .check-date .ensures .1)
+
 days-before-month-requires : tie.Need-days-before-month-requires
-days-before-month-requires c κs =
-    let v = subst CheckedValid (c .before .y .given .1) (c .before .before .before .check-date .ensures .1) in
-    (v .0 .month-low, v .0 .month-high)
+days-before-month-requires c κs = let v = in-range c .valid in (v .month-low, v .month-high)
 
 add-t11 : tie.Need-add-t11
-add-t11 c =
-    let v = subst CheckedValid (c .before .before .y .given .1) (c .before .before .before .before .check-date .ensures .1) in
-    record { fits = omega (arith, c .days-before-month .ensures .1, day-small _ _ _ (v .0)) }
+add-t11 c = record { fits = omega (arith, c .days-before-month .ensures .1, day-small _ _ _ (in-range (c .before) .valid)) }
 
 cast-t12 : tie.Need-cast-t12
 cast-t12 c = search needs
@@ -38,19 +38,21 @@ enum-known-r c = search needs
 returns : tie.Need-returns
 unfolding dayOfYearAnswer
 returns c =
-    let v = subst CheckedValid (c .before .before .y .given .1) (c .before .before .before .before .check-date .ensures .1) in
-    let s = c .before .before .before .before .before in
+    let k = c .before .before .before .before in
+    let f = k .before .fits in
     let g = c .before .before .y .given in
-    let l = day-small _ _ _ (v .0) in
+    let v = in-range (c .before) .valid in
+    let l = day-small _ _ _ v in
     ap value
     (toZ-pos w64 (omega (arith, c .days-before-month .ensures .1)) ∙ ap (λ b. pos (b + g .0 .1 .1 .0)) (c .days-before-month .ensures .0)
-    ∙ sym (year-day _ _ _ (v .0)))
-    ∙ checked-value (s .fits .year) (s .fits .month) (s .fits .day) (c .before .before .before .before .check-date .ensures .0) dayOfYear (g .1)
+    ∙ sym (year-day _ _ _ v))
+    ∙ checked-value (f .year) (f .month) (f .day) (k .check-date .ensures .0) dayOfYear (g .1)
 
 returns-2 : tie.Need-returns-2
 unfolding dayOfYearAnswer
-returns-2 c = let s = c .before .before .before .before in
-    checked-refused (s .fits .year) (s .fits .month) (s .fits .day) (c .before .before .before .check-date .ensures .0) (λ d. value (dayOfYear d)) (c .before .r .given .1)
+returns-2 c = let k = c .before .before .before in
+    let f = k .before .fits in
+    checked-refused (f .year) (f .month) (f .day) (k .check-date .ensures .0) (λ d. value (dayOfYear d)) (c .before .r .given .1)
 
 pub day-of-year-spec : {M : Type 1} → statement M
 day-of-year-spec =

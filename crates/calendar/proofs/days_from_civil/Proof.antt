@@ -6,8 +6,8 @@ use Rattle.refusal.specs.Outcome.{value}
 use Rattle.numbers.proofs.Machine.{add-first, add-first-is}
 use Rattle.calendar.specs.Count.{countOfDate}
 use Rattle.calendar.specs.Answers.{daysAnswer}
-use Rattle.calendar.specs.Checked.{CheckedValid}
-use Rattle.calendar.specs.Closed.{baseCount}
+use Rattle.calendar.specs.Checked.{CheckedInRange}
+use Rattle.calendar.specs.Closed.{baseCount, InRange}
 use Rattle.calendar.proofs.Dates.{count-base, checked-value, checked-refused}
 use Rattle.calendar.proofs.days_from_civil.Statement.{statement}
 use Rattle.calendar.proofs.days_from_civil.Tie as tie
@@ -18,8 +18,11 @@ check-date-requires c κs = search needs
 enum-known-y : tie.Need-enum-known-y
 enum-known-y c = search needs
 
+in-range : (c : tie.After-known-told) → let g = c .before .y .given .0 in InRange (g .0) (g .1 .0) (g .1 .1 .0)
+in-range c = subst CheckedInRange (c .before .y .given .1) (c .before .before .before .check-date .ensures .1)
+
 days-since-base-requires : tie.Need-days-since-base-requires
-days-since-base-requires c κs = subst CheckedValid (c .before .y .given .1) (c .before .before .before .check-date .ensures .1)
+days-since-base-requires c κs = in-range c
 
 cast-t11 : tie.Need-cast-t11
 cast-t11 c = search needs
@@ -33,18 +36,20 @@ enum-known-r c = search needs
 returns : tie.Need-returns
 unfolding daysAnswer
 returns c =
-    let v = subst CheckedValid (c .before .before .y .given .1) (c .before .before .before .before .check-date .ensures .1) in
-    let s = c .before .before .before .before .before in
+    let k = c .before .before .before .before in
+    let f = k .before .fits in
+    let n = c .days-since-base .result in
     let l = c .days-since-base .ensures .1 .1 in
     ap value
-    (add-first-is baseCount (c .days-since-base .result) (omega arith) ∙ +ℤ-comm (pos (c .days-since-base .result)) baseCount
-    ∙ ap (λ n. baseCount +ℤ pos n) (c .days-since-base .ensures .0) ∙ count-base _ _ _ (v .0) (v .1 .0) (v .1 .1))
-    ∙ checked-value (s .fits .year) (s .fits .month) (s .fits .day) (c .before .before .before .before .check-date .ensures .0) countOfDate (c .before .before .y .given .1)
+    (add-first-is baseCount n (omega arith) ∙ +ℤ-comm (pos n) baseCount ∙ ap (λ n. baseCount +ℤ pos n) (c .days-since-base .ensures .0)
+    ∙ count-base _ _ _ (in-range (c .before)))
+    ∙ checked-value (f .year) (f .month) (f .day) (k .check-date .ensures .0) countOfDate (c .before .before .y .given .1)
 
 returns-2 : tie.Need-returns-2
 unfolding daysAnswer
-returns-2 c = let s = c .before .before .before .before in
-    checked-refused (s .fits .year) (s .fits .month) (s .fits .day) (c .before .before .before .check-date .ensures .0) (λ d. value (countOfDate d)) (c .before .r .given .1)
+returns-2 c = let k = c .before .before .before in
+    let f = k .before .fits in
+    checked-refused (f .year) (f .month) (f .day) (k .check-date .ensures .0) (λ d. value (countOfDate d)) (c .before .r .given .1)
 
 pub days-from-civil-spec : {M : Type 1} → statement M
 days-from-civil-spec =

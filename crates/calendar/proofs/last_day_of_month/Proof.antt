@@ -1,15 +1,16 @@
 use Rattle.refusal.specs.Outcome.{numberOutcome}
-use Rattle.calendar.proofs.Lengths.{length-refused, length-fits, length-is}
+use Rattle.calendar.proofs.Lengths.{AcceptedMonth, length-refused, leap-day-le, length-fits, length-is}
 use Rattle.calendar.specs.Checked.{commonLength}
 use Rattle.calendar.specs.Answers.{lastDayAnswer}
 use Rattle.calendar.specs.Range.{firstYear, lastYear}
-use Rattle.numbers.proofs.Machine.{answered}
+use Rattle.numbers.proofs.Machine.{answered, pos-fits}
 use Rattle.refusal.specs.Numbers.{refusalNumber}
 use mir.Facts.{toZ-ofZ}
 use mathlib.Core.Path.{sym, ap, _∙_}
-use Rattle.numbers.specs.Range.{eqZ}
-use lib.IntN.{pos}
-use mathlib.Core.Bool.{cond}
+use mir.Syntax.{w64}
+use mir.Val.{ofZ}
+use native.Mathlib.Omega.{arith}
+use lib.Dec.{eqb}
 use borrow.Author.Needs.{needs}
 use Rattle.calendar.proofs.last_day_of_month.Statement.{statement}
 use Rattle.calendar.proofs.last_day_of_month.Tie as tie
@@ -33,36 +34,39 @@ years-from-base-requires c κs = sym (c .before .before .before .before .before 
 leap-day-requires : tie.Need-leap-day-requires
 leap-day-requires c κs = search needs
 
-in-february-requires : tie.Need-in-february-requires
-in-february-requires c κs = search needs
+abbrev start : tie.After-leap-day → tie.Start
+start c = c .before .before .before .before .before .before .before .before
 
-cast-t11 : tie.Need-cast-t11
-cast-t11 c = search needs
+-- the month that all callees accepted
+accepted :
+    (c : tie.After-leap-day) →
+    AcceptedMonth (start c .args .year) (start c .args .month) (c .before .before .before .length .given .0 .0) (c .before .years-from-base .result) (c .leap-day .result)
+accepted c = let k = c .before .before .before .before .before in
+    let f = start c .fits in
+    record {
+      year-inside = answered firstYear lastYear (f .year) (k .before .before .outside .ensures) (k .before .if1 .left);
+      common = ap numberOutcome (sym (c .before .before .before .length .given .1)) ∙ k .common-length .ensures ∙ ap commonLength (toZ-ofZ (f .month));
+      year-is = c .before .years-from-base .ensures .0 ∙ toZ-ofZ (f .year);
+      leap-is = c .leap-day .ensures .0;
+    }
 
-add-t12 : tie.Need-add-t12
-add-t12 c = let s = c .before .before .before .before .before .before .before .before .before in
-    let g = c .before .before .before .before .length .given in
-    let h = answered firstYear lastYear (s .fits .year) (c .before .before .before .before .before .before .before .before .outside .ensures) (c .before .before .before .before .before .before .before .if1 .left) in
-    let e = ap numberOutcome (sym (g .1)) ∙ c .before .before .before .before .before .before .common-length .ensures ∙ ap commonLength (toZ-ofZ (s .fits .month)) in
-    let y = c .before .before .years-from-base in
-    let x = c .in-february in
-    length-fits (s .args .year) (s .args .month) (g .0 .0) (y .result) (c .before .leap-day .result) (x .result) h e
-    (y .ensures .0 ∙ toZ-ofZ (s .fits .year)) (c .before .leap-day .ensures .0)
-    (x .ensures ∙ ap (λ m. cond (eqZ m (pos 2)) (c .before .leap-day .result) 0) (toZ-ofZ (s .fits .month)))
+cast-t10 : tie.Need-cast-t10
+cast-t10 c = search needs
+
+mul-t12 : tie.Need-mul-t12
+mul-t12 c = record { fits = omega (arith, leap-day-le (eqb (ofZ w64 (start c .args .month)) 2) (c .leap-day .result) (c .leap-day .ensures .1)) }
+
+cast-t13 : tie.Need-cast-t13
+cast-t13 c = let l = leap-day-le (eqb (ofZ w64 (start c .args .month)) 2) (c .leap-day .result) (c .leap-day .ensures .1) in pos-fits (omega arith)
+
+add-t14 : tie.Need-add-t14
+add-t14 c = length-fits (accepted c)
 
 enum-known-r : tie.Need-enum-known-r
 enum-known-r c = search needs
 
 returns-2 : tie.Need-returns-2
-returns-2 c = let s = c .before .before .before .before .before .before .before .before .before in
-    let g = c .before .before .before .before .length .given in
-    let h = answered firstYear lastYear (s .fits .year) (c .before .before .before .before .before .before .before .before .outside .ensures) (c .before .before .before .before .before .before .before .if1 .left) in
-    let e = ap numberOutcome (sym (g .1)) ∙ c .before .before .before .before .before .before .common-length .ensures ∙ ap commonLength (toZ-ofZ (s .fits .month)) in
-    let y = c .before .before .years-from-base in
-    let x = c .in-february in
-    length-is (s .args .year) (s .args .month) (g .0 .0) (y .result) (c .before .leap-day .result) (x .result) h e
-    (y .ensures .0 ∙ toZ-ofZ (s .fits .year)) (c .before .leap-day .ensures .0)
-    (x .ensures ∙ ap (λ m. cond (eqZ m (pos 2)) (c .before .leap-day .result) 0) (toZ-ofZ (s .fits .month)))
+returns-2 c = length-is (accepted c)
 
 returns-3 : tie.Need-returns-3
 returns-3 c = let s = c .before .before .before .before .before .before in
@@ -81,9 +85,10 @@ last-day-of-month-spec =
     enum-known-length
     years-from-base-requires
     leap-day-requires
-    in-february-requires
-    cast-t11
-    add-t12
+    cast-t10
+    mul-t12
+    cast-t13
+    add-t14
     enum-known-r
     returns-2
     returns-3)

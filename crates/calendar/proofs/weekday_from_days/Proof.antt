@@ -1,17 +1,15 @@
 use Rattle.numbers.specs.Range.{since}
-use Rattle.calendar.proofs.Weekday.{weekday-from-first}
+use Rattle.calendar.proofs.Weekdays.{weekday-after}
 use Rattle.calendar.specs.Answers.{weekdayAnswer}
-use Rattle.calendar.specs.Count.{weekday}
+use Rattle.calendar.specs.Count.{weekday, weekdayAfter}
 use Rattle.calendar.specs.Range.{firstCount, lastCount}
 use Rattle.numbers.proofs.Machine.{answered}
 use Rattle.numbers.proofs.Integers.{add-since, outside-no}
 use Rattle.refusal.specs.Outcome.{value}
 use mir.Facts.{toZ-ofZ, toZ-pos}
 use mir.Syntax.{w64}
-use lib.IntN.{pos}
 use native.Mathlib.Omega.{arith}
 use mathlib.Core.Path.{sym, ap, _∙_}
-use Prim.Native.Nat.{_+_, _%_}
 use borrow.Author.Needs.{needs}
 use Rattle.calendar.proofs.weekday_from_days.Statement.{statement}
 use Rattle.calendar.proofs.weekday_from_days.Tie as tie
@@ -33,13 +31,13 @@ cast-t7 : tie.Need-cast-t7
 cast-t7 c = search needs
 
 returns-2 : tie.Need-returns-2
-unfolding weekdayAnswer
+unfolding weekdayAnswer weekday
 returns-2 c = let s = c .before .before .before in
     let h = answered firstCount lastCount (s .fits .days) (c .before .before .outside .ensures) (c .before .if1 .left) in
     let e = add-since firstCount (s .args .days) (outside-no firstCount lastCount (s .args .days) h .0) in
     rw h
-    (ap value (toZ-pos w64 (omega arith) ∙ ap (λ n. pos ((n + 6) % 7)) (c .days-from-first .ensures .0 ∙ ap (since firstCount) (toZ-ofZ (s .fits .days)))
-    ∙ sym (weekday-from-first (since firstCount (s .args .days))) ∙ ap weekday e))
+    (ap value (toZ-pos w64 (omega arith) ∙ ap (weekdayAfter (weekday firstCount)) (c .days-from-first .ensures .0 ∙ ap (since firstCount) (toZ-ofZ (s .fits .days)))
+    ∙ sym (weekday-after firstCount (since firstCount (s .args .days))) ∙ ap weekday e))
 
 pub weekday-from-days-spec : {M : Type 1} → statement M
 weekday-from-days-spec =

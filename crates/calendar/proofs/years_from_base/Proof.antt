@@ -1,4 +1,4 @@
-use Rattle.calendar.proofs.Tested.{year-low, year-high, year-is, year-from, year-to}
+use Rattle.calendar.proofs.Years.{year-low, year-high, year-is, year-from, year-to}
 use Rattle.calendar.specs.Closed.{baseYear}
 use Rattle.calendar.specs.Range.{lastYear}
 use Rattle.numbers.proofs.Machine.{from-first, from-first-cast, from-first-is}

@@ -1,10 +1,11 @@
-use Rattle.calendar.proofs.Conversion.{marchYear, marchDay, year-adds, month-subtracts, date-made}
-use Rattle.calendar.specs.Closed.{baseYear}
+use Rattle.calendar.proofs.Conversion.{marchYear, marchDay, new-year-le, year-fits, year-adds, month-subtracts, date-made}
+use Rattle.calendar.specs.Closed.{baseYear, newYear}
 use Rattle.calendar.specs.Gregorian.{date}
-use Rattle.numbers.proofs.Machine.{read}
+use Rattle.numbers.proofs.Machine.{read, pos-fits}
 use lib.IntN.{_+ℤ_}
 use Prim.Native.Nat.{_+_, _-_, _*_, _/_}
 use mir.Val.{toZ}
+use native.Mathlib.Omega.{arith}
 use mir.Syntax.{w64}
 use mathlib.Core.Path.{ap, _∙_}
 use borrow.Author.Needs.{needs}
@@ -44,45 +45,46 @@ mul-m c = search needs
 add-m : tie.Need-add-m
 add-m c = search needs
 
-new-year-requires : tie.Need-new-year-requires
-new-year-requires c κs = search needs
+cast-j : tie.Need-cast-j
+cast-j c = search needs
 
 add-t9 : tie.Need-add-t9
-add-t9 c = search needs
+add-t9 c = record { fits = year-fits (c .args .n) (c .pre) }
 
-cast-t11 : tie.Need-cast-t11
-cast-t11 c = search needs
+cast-t12 : tie.Need-cast-t12
+cast-t12 c = let l = year-fits (c .args .n) (c .pre) in pos-fits (omega arith)
 
-add-t12 : tie.Need-add-t12
-add-t12 c = year-adds (c .before .args .n) (c .new-year .result) (c .before .pre) (c .new-year .ensures .0) (c .new-year .ensures .1)
+add-t13 : tie.Need-add-t13
+add-t13 c = year-adds (c .args .n) (c .pre)
 
 mul-t10 : tie.Need-mul-t10
-mul-t10 c = search needs
+mul-t10 c = record { fits = omega (arith, new-year-le (c .args .n) (c .pre)) }
 
-sub-t13 : tie.Need-sub-t13
-sub-t13 c = month-subtracts (c .before .args .n) (c .new-year .result) (c .before .pre) (c .new-year .ensures .0) (c .new-year .ensures .1)
+sub-t14 : tie.Need-sub-t14
+sub-t14 c = month-subtracts (c .args .n) (c .pre)
 
-cast-t14 : tie.Need-cast-t14
-cast-t14 c = search needs
+cast-t15 : tie.Need-cast-t15
+cast-t15 c = search needs
 
-add-t15 : tie.Need-add-t15
-add-t15 c = search needs
+add-t16 : tie.Need-add-t16
+add-t16 c = search needs
 
 days-from-march-requires : tie.Need-days-from-march-requires
 days-from-march-requires c κs = search needs
 
-sub-t17 : tie.Need-sub-t17
-sub-t17 c = search needs
+sub-t18 : tie.Need-sub-t18
+sub-t18 c = search needs
 
-cast-t18 : tie.Need-cast-t18
-cast-t18 c = search needs
+cast-t19 : tie.Need-cast-t19
+cast-t19 c = search needs
 
 returns : tie.Need-returns
 returns c =
-    let n = c .before .before .args .n in
-    let j = c .before .new-year .result in
-    ap (λ s. date (read (toZ w64 (marchYear n + j) +ℤ baseYear)) (toZ w64 ((5 * marchDay n + 461) / 153 - 12 * j)) (toZ w64 (marchDay n + 1 - s))) (c .days-from-march .ensures)
-    ∙ date-made n j (c .before .before .pre) (c .before .new-year .ensures .0) (c .before .new-year .ensures .1)
+    let n = c .before .args .n in
+    let k = marchDay n in
+    ap (λ s. date (read (toZ w64 (marchYear n + newYear k) +ℤ baseYear)) (toZ w64 ((5 * k + 461) / 153 - 12 * newYear k)) (toZ w64 (k + 1 - s)))
+    (c .days-from-march .ensures)
+    ∙ date-made n (c .before .pre)
 
 pub date-after-spec : {M : Type 1} → statement M
 date-after-spec =
@@ -99,15 +101,15 @@ date-after-spec =
     sub-n-y
     mul-m
     add-m
-    new-year-requires
+    cast-j
     add-t9
-    cast-t11
-    add-t12
+    cast-t12
+    add-t13
     mul-t10
-    sub-t13
-    cast-t14
-    add-t15
+    sub-t14
+    cast-t15
+    add-t16
     days-from-march-requires
-    sub-t17
-    cast-t18
+    sub-t18
+    cast-t19
     returns)

@@ -1,15 +1,14 @@
-use Rattle.calendar.proofs.Steps.{in-range}
-use Rattle.calendar.proofs.Conversion.{algorithm-4}
+use Rattle.calendar.proofs.Conversion.{before-march-le, day-number}
 use native.Mathlib.Omega.{arith}
 use borrow.Author.Needs.{needs}
 use Rattle.calendar.proofs.convert.days_since_base.Statement.{statement}
 use Rattle.calendar.proofs.convert.days_since_base.Tie as tie
 
-before-march-requires : tie.Need-before-march-requires
-before-march-requires c κs = search needs
+cast-y-m : tie.Need-cast-y-m
+cast-y-m c = search needs
 
 sub-y-m : tie.Need-sub-y-m
-sub-y-m c = search needs
+sub-y-m c = let l = before-march-le (c .args .m) in omega arith
 
 mul-result : tie.Need-mul-result
 mul-result c = search needs
@@ -30,16 +29,17 @@ add-result-3 : tie.Need-add-result-3
 add-result-3 c = search needs
 
 add-result-4 : tie.Need-add-result-4
-add-result-4 c = let a = c .before .before .args in let e = algorithm-4 (a .y) (a .m) (a .d) _ _ (c .before .before .pre .0) (c .before .before .pre .1 .0) (c .before .before-march .ensures .0) (c .days-before .ensures .0) in let r = in-range (a .y) (a .m) (a .d) (c .before .before .pre .0) (c .before .before .pre .1 .0) (c .before .before .pre .1 .1) in record { fits = omega (arith, e, r .1) }
+add-result-4 c = let a = c .before .args in
+    record { fits = omega (arith, day-number (a .y) (a .m) (a .d) (c .days-before .result) (c .before .pre) (c .days-before .ensures .0) .1 .1) }
 
 returns : tie.Need-returns
-returns c = let a = c .before .before .args in let e = algorithm-4 (a .y) (a .m) (a .d) _ _ (c .before .before .pre .0) (c .before .before .pre .1 .0) (c .before .before-march .ensures .0) (c .days-before .ensures .0) in let r = in-range (a .y) (a .m) (a .d) (c .before .before .pre .0) (c .before .before .pre .1 .0) (c .before .before .pre .1 .1) in (e, (omega (arith, e, r .0), omega (arith, e, r .1)))
+returns c = let a = c .before .args in day-number (a .y) (a .m) (a .d) (c .days-before .result) (c .before .pre) (c .days-before .ensures .0)
 
 pub days-since-base-spec : {M : Type 1} → statement M
 days-since-base-spec =
     tie.close
     (tie.spec
-    before-march-requires
+    cast-y-m
     sub-y-m
     mul-result
     add-result

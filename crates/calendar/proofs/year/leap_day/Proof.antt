@@ -1,6 +1,5 @@
-use Rattle.calendar.proofs.Leap.{rest-zero, rest-left}
+use Rattle.calendar.proofs.Leap.{leap-le, rest-flag}
 use native.Mathlib.Omega.{arith}
-use mathlib.Core.Path.{sym}
 use borrow.Author.Needs.{needs}
 use Rattle.calendar.proofs.year.leap_day.Statement.{statement}
 use Rattle.calendar.proofs.year.leap_day.Tie as tie
@@ -8,11 +7,13 @@ use Rattle.calendar.proofs.year.leap_day.Tie as tie
 leap-rest-requires : tie.Need-leap-rest-requires
 leap-rest-requires c κs = search needs
 
-returns : tie.Need-returns
-returns c = (sym (rest-zero (c .before .before .args .y) _ (c .before .leap-rest .ensures .0) (c .before .leap-rest .ensures .1) (c .if1 .taken)), omega arith)
+cast-result : tie.Need-cast-result
+cast-result c = search needs
 
-returns-2 : tie.Need-returns-2
-returns-2 c = (sym (rest-left (c .before .before .args .y) _ (c .before .leap-rest .ensures .0) (c .before .leap-rest .ensures .1) (c .if1 .left)), omega arith)
+returns : tie.Need-returns
+returns c = let y = c .before .args .y in
+    let e = rest-flag y (c .leap-rest .result) (c .leap-rest .ensures .0) (c .leap-rest .ensures .1) in
+    (e, omega (arith, e, leap-le y))
 
 pub leap-day-spec : {M : Type 1} → statement M
-leap-day-spec = tie.close (tie.spec leap-rest-requires returns returns-2)
+leap-day-spec = tie.close (tie.spec leap-rest-requires cast-result returns)

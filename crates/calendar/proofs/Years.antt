@@ -1,4 +1,4 @@
--- Tested years and counts as natural numbers, and what the tests make of each answer.
+-- A tested year as a natural number, counted from baseYear.
 use Prim.Native.Nat.{_≤_}
 use mathlib.Core.Path.{_≡_, refl, sym, ap, _∙_}
 use mathlib.Core.Bool.{false}
@@ -22,8 +22,8 @@ module _ (year : ℤ) (h : outside firstYear lastYear year ≡ false) where
 
   pub year-from : fromYear ≤ since baseYear year
   year-from =
-      ltb-false (since baseYear year) 400
-      (sym (lt-add baseYear (since baseYear year) 400) ∙ ap (λ y. ltZ y firstYear) year-is ∙ outside-no firstYear lastYear year h .0)
+      ltb-false (since baseYear year) fromYear
+      (sym (lt-add baseYear (since baseYear year) fromYear) ∙ ap (λ y. ltZ y firstYear) year-is ∙ outside-no firstYear lastYear year h .0)
 
   pub year-to : since baseYear year ≤ toYear
   year-to = since-le baseYear lastYear refl year year-low year-high
