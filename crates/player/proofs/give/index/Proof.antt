@@ -1,5 +1,6 @@
 -- Each case returns, and leaves in the place, what its outcome says; the count and the bad instant's place fit by what is required.
 use mathlib.Core.Path.{refl, sym, ap}
+use native.Mathlib.Omega.{arith}
 use denote.Ref.{now}
 use mir.Facts.{toZ-pos}
 use mir.Syntax.{w64}
@@ -13,7 +14,8 @@ use Rattle.player.proofs.give.index.Tie as tie
 cast-result : tie.Need-cast-result
 cast-result c =
     let g = c .before .answer .given in
-    pos-fits (c .before .before .before .pre .0 (g .0 .0) (ap indexOutcome (g .1)))
+    let small = c .before .before .before .pre .0 (g .0 .0) (ap indexOutcome (g .1)) in
+    pos-fits (omega arith)
 
 cast-place : tie.Need-cast-place
 cast-place c =
