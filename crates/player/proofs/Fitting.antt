@@ -1,6 +1,6 @@
 -- The natural numbers that an answer hands back are no larger than what was lent or asked for, so each fits an i64.
 use Prim.Native.Nat.{ℕ, _≤_, _<_, _^_}
-use mathlib.Core.Path.{_≡_, refl, subst}
+use mathlib.Core.Path.{_≡_, refl, sym, _∙_, subst}
 use mathlib.Core.Bool.{Bool, true, false, cond, not, _||_}
 use mathlib.Core.List.{List}
 use native.Mathlib.Omega.{arith}
@@ -12,8 +12,8 @@ use lib.Signed.{mag}
 use mir.Syntax.{w64}
 use mir.Val.{SFits}
 use mir.Facts.{toZ-ofZ}
-use Rattle.numbers.proofs.Machine.{read}
 use Rattle.refusal.specs.Outcome.{Outcome, value, refused, refusedAt, mapValue}
+use Rattle.numbers.proofs.Machine.{read}
 use Rattle.instant.specs.Answers.{firstBad, indexDaysAnswer}
 use Rattle.labels.specs.Written.{bytesWritten}
 use Rattle.constants.specs.Least.{Found, at, none, leastBelow}
@@ -21,12 +21,12 @@ use Rattle.constants.specs.Limits.{outsideLimits, endOutside, boundOutside}
 use Rattle.constants.specs.Answers.{Accepted, difference, differenceAnswer, claimed, boundAnswer}
 use Rattle.constants.proofs.Least.{finds-at}
 
--- two different outcomes are not equal
+-- two outcomes of different kinds are not equal
 never : {A : Type 0} → _≡_ {A = ℕ} 0 1 → A
 never e = absurd (omega arith)
 
 -- the bytes that are written are not more than there are
-pub bytes-within : (label : Outcome (List ℕ)) (buffer : List ℕ) (n : ℕ) → bytesWritten label buffer ≡ value n → n ≤ length buffer
+bytes-within : (label : Outcome (List ℕ)) (buffer : List ℕ) (n : ℕ) → bytesWritten label buffer ≡ value n → n ≤ length buffer
 bytes-within (value label) buffer n e = go (ltb (length buffer) (length label)) refl e
   where
     go :
@@ -37,61 +37,76 @@ bytes-within (value label) buffer n e = go (ltb (length buffer) (length label)) 
 bytes-within (refused number) buffer n e = never (cc)
 bytes-within (refusedAt number place) buffer n e = never (cc)
 
--- the days that are written are as many as the instants, and a bad instant stands among them
-module _ (instants days : List ℤ) where
-  past-lengths : {x : Outcome ℕ} → (refused 12 ≡ x → ⊥) → indexDaysAnswer instants days ≡ x → cond (ltb (firstBad instants) (length instants)) (refusedAt 4 (firstBad instants)) (value (length instants)) ≡ x
-  unfolding indexDaysAnswer
-  past-lengths {x} other = go (not (eqb (length instants) (length days)))
-    where
-      go : {o : Outcome ℕ} (unequal : Bool) → cond unequal (refused 12) o ≡ x → o ≡ x
-      go true e = absurd (other e)
-      go false e = e
+pub bytes-fit :
+    (label : Outcome (List ℕ)) (buffer : List ℕ) → length buffer < 2 ^ 63 → {outcome : Outcome ℕ} → outcome ≡ bytesWritten label buffer →
+    (n : ℕ) → outcome ≡ value n → n < 2 ^ 63
+bytes-fit label buffer small same n e = let w = bytes-within label buffer n (sym same ∙ e) in omega arith
 
-  pub index-count : (n : ℕ) → indexDaysAnswer instants days ≡ value n → n ≡ length instants
-  index-count n e = go (ltb (firstBad instants) (length instants)) (past-lengths (λ e. never (cc)) e)
-    where
-      go : (bad : Bool) → cond bad (refusedAt 4 (firstBad instants)) (value (length instants)) ≡ value n → n ≡ length instants
-      go true e = never (cc)
-      go false e = cc
+-- as many days are written as there are instants, and the place of a bad instant is among them
+module _ (instants days : List ℤ) (small : length instants < 2 ^ 63) where
+  Fit : Outcome ℕ → Type 0
+  Fit (value n) = n < 2 ^ 63
+  Fit (refused number) = Unit {0}
+  Fit (refusedAt number place) = place < 2 ^ 63
 
-  pub index-place : (number place : ℕ) → indexDaysAnswer instants days ≡ refusedAt number place → place < length instants
-  index-place number place e = go (ltb (firstBad instants) (length instants)) refl (past-lengths (λ e. never (cc)) e)
+  index-fits : Fit (indexDaysAnswer instants days)
+  unfolding indexDaysAnswer Fit
+  index-fits = go (not (eqb (length instants) (length days))) (ltb (firstBad instants) (length instants)) refl
     where
       go :
-          (bad : Bool) → ltb (firstBad instants) (length instants) ≡ bad →
-          cond bad (refusedAt 4 (firstBad instants)) (value (length instants)) ≡ refusedAt number place → place < length instants
-      go true h e = let same : firstBad instants ≡ place = cc in omega (arith, ltb-true (firstBad instants) (length instants) h)
-      go false h e = never (cc)
+          (unequal bad : Bool) → ltb (firstBad instants) (length instants) ≡ bad →
+          Fit (cond unequal (refused 12) (cond bad (refusedAt 4 (firstBad instants)) (value (length instants))))
+      go true bad h = tt
+      go false true h = omega (arith, ltb-true (firstBad instants) (length instants) h)
+      go false false h = small
 
--- what is below an i64 fits one
-pub below-fits : {end : ℤ} {n : ℕ} → SFits w64 end → n < natAbs (read end) → n < 2 ^ 63
-below-fits {end} {n} f l = go end (f .sfits) (subst (λ (z : ℤ). n < natAbs z) (toZ-ofZ f) l)
+  pub count-fits : {outcome : Outcome ℕ} → outcome ≡ indexDaysAnswer instants days → (n : ℕ) → outcome ≡ value n → n < 2 ^ 63
+  unfolding Fit
+  count-fits same n e = subst Fit (sym same ∙ e) index-fits
+
+  pub place-fits :
+      {outcome : Outcome ℕ} → outcome ≡ indexDaysAnswer instants days → (number place : ℕ) → outcome ≡ refusedAt number place → place < 2 ^ 63
+  unfolding Fit
+  place-fits same number place e = subst Fit (sym same ∙ e) index-fits
+
+-- the least n is below the end of the search, or the bound, and both are numbers of an i64
+below-fits : {end : ℤ} {n : ℕ} → SFits w64 end → n < natAbs (read end) → n < 2 ^ 63
+below-fits {end} {n} fits l = go end (fits .sfits) (subst (λ (z : ℤ). n < natAbs z) (toZ-ofZ fits) l)
   where
     go : (end : ℤ) → mag end < 2 ^ 63 → n < natAbs end → n < 2 ^ 63
     go (pos a) small l = omega arith
     go (negsuc a) small l = omega arith
 
--- the least n is below the end of the search, or the bound
-module _ (a b d m c k t end : ℤ) where
+module _ (a b d m c k t : ℤ) where
   D : ℕ → Bool
   D = difference a b d m c k t
 
-  pub found-below : (n : ℕ) → differenceAnswer a b d m c k t end ≡ value (at n) → n < natAbs end
+  found-below : (end : ℤ) (n : ℕ) → differenceAnswer a b d m c k t end ≡ value (at n) → n < natAbs end
   unfolding differenceAnswer D
-  found-below n = go (outsideLimits a b d m c k t || endOutside end)
+  found-below end n = go (outsideLimits a b d m c k t || endOutside end)
     where
       go : (outside : Bool) → cond outside (refused 9) (value (leastBelow D (natAbs end))) ≡ value (at n) → n < natAbs end
       go true e = never (cc)
       go false e = let found : leastBelow D (natAbs end) ≡ at n = cc in finds-at D (natAbs end) n .0 found .below
 
-  pub least-below : (number n : ℕ) → boundAnswer a b d m c k t end ≡ refusedAt number n → n < natAbs end
+  least-below : (bound : ℤ) (number n : ℕ) → boundAnswer a b d m c k t bound ≡ refusedAt number n → n < natAbs bound
   unfolding boundAnswer D
-  least-below number n = go (outsideLimits a b d m c k t || boundOutside end) (leastBelow D (natAbs end)) refl (D (natAbs end))
+  least-below bound number n = go (outsideLimits a b d m c k t || boundOutside bound) (leastBelow D (natAbs bound)) refl (D (natAbs bound))
     where
       go :
-          (outside : Bool) (found : Found) → leastBelow D (natAbs end) ≡ found → (here : Bool) →
-          cond outside (refused 9) (claimed found here) ≡ refusedAt number n → n < natAbs end
+          (outside : Bool) (found : Found) → leastBelow D (natAbs bound) ≡ found → (here : Bool) →
+          cond outside (refused 9) (claimed found here) ≡ refusedAt number n → n < natAbs bound
       go true found h here e = never (cc)
-      go false (at l) h here e = let same : l ≡ n = cc in omega (arith, finds-at D (natAbs end) l .0 h .below)
+      go false (at l) h here e = let same : l ≡ n = cc in omega (arith, finds-at D (natAbs bound) l .0 h .below)
       go false none h true e = never (cc)
       go false none h false e = never (cc)
+
+  pub found-fits :
+      {end : ℤ} → SFits w64 end → {outcome : Outcome Found} → outcome ≡ differenceAnswer a b d m c k t (read end) →
+      (n : ℕ) → outcome ≡ value (at n) → n < 2 ^ 63
+  found-fits {end} fits same n e = below-fits fits (found-below (read end) n (sym same ∙ e))
+
+  pub least-fits :
+      {bound : ℤ} → SFits w64 bound → {outcome : Outcome Accepted} → outcome ≡ boundAnswer a b d m c k t (read bound) →
+      (number n : ℕ) → outcome ≡ refusedAt number n → n < 2 ^ 63
+  least-fits {bound} fits same number n e = below-fits fits (least-below (read bound) number n (sym same ∙ e))

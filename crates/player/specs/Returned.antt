@@ -36,7 +36,7 @@ foundOr end none = end
 abbrev pub returnedFound : (end : ℤ) → Outcome Found → ℤ
 returnedFound end answer = returned (mapValue (foundOr end) answer)
 
--- a number, a date and fields as the numbers of their place, in document 01's order
+-- a date and fields as the numbers of their place, in document 01's order
 abbrev pub dateNumbers : Date → List ℤ
 dateNumbers d = d .year ∷ d .month ∷ d .day ∷ []
 

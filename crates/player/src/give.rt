@@ -1,4 +1,5 @@
-// What each kind of answer returns, and what it leaves in the place that the caller handed in.
+// What each kind of answer returns, and what it leaves in the place that the caller handed in. A count, a place or a least n that is
+// cast to an i64 is required to fit; it does by the length of what was lent, or by the end or bound that was asked for.
 
 use calendar::DateAnswer;
 use calendar::FlagAnswer;
@@ -109,7 +110,7 @@ pub fn fields(answer: FieldsAnswer, place: &mut [i64; 7]) -> i64
 
 pub fn index(answer: IndexAnswer, place: &mut i64) -> i64
     requires { ⌜ ((n : ℕ) → indexOutcome answer ≡ value n → n < 2 ^ 63) ⌝ }
-    requires { ⌜ ((number at : ℕ) → indexOutcome answer ≡ refusedAt number at → at < 2 ^ 63) ⌝ }
+    requires { ⌜ ((number place : ℕ) → indexOutcome answer ≡ refusedAt number place → place < 2 ^ 63) ⌝ }
     ensures answer { λ r. ⌜ r ≡ returnedCount (indexOutcome answer) ⌝ }
     ensures place { λ r. ⌜ now (place .exit) ≡ afterRefusal (indexOutcome answer) (now (place .entry)) ⌝ }
 {
@@ -138,6 +139,7 @@ pub fn claim(answer: ClaimAnswer, least: &mut i64) -> i64
     }
 }
 
+// A refusal's number, below zero.
 fn negated(why: Refusal) -> i64
     ensures { λ n. ⌜ n ≡ negℤ (pos (refusalNumber why)) ⌝ }
 {

@@ -10,8 +10,8 @@ use Rattle.player.proofs.ovenquill_add_days.Tie as tie
 returns : tie.Need-returns
 returns c =
     let f = c .before .before .before .fits in
-    placed (c .before .before .add-days .ensures ∙ (λ i. addDaysAnswer (toZ-ofZ (f .year) i) (toZ-ofZ (f .month) i) (toZ-ofZ (f .day) i) (toZ-ofZ (f .days) i))) dateNumbers _ (as-read (c .date .ok) (c .date .ensures .0)) (c .date .ensures .1)
+    let same = c .before .before .add-days .ensures ∙ (λ i. addDaysAnswer (toZ-ofZ (f .year) i) (toZ-ofZ (f .month) i) (toZ-ofZ (f .day) i) (toZ-ofZ (f .days) i)) in
+    placed same dateNumbers _ (as-read (c .date .ok) (c .date .ensures .0), c .date .ensures .1)
 
 pub ovenquill-add-days-spec : {M : Type 1} → statement M
-ovenquill-add-days-spec =
-    tie.close (tie.spec (λ c κs. tt) (λ c κs. tt) returns)
+ovenquill-add-days-spec = tie.close (tie.spec (λ c κs. tt) (λ c κs. tt) returns)

@@ -10,8 +10,8 @@ use Rattle.player.proofs.ovenquill_civil_from_days.Tie as tie
 returns : tie.Need-returns
 returns c =
     let f = c .before .before .before .fits in
-    placed (c .before .before .civil-from-days .ensures ∙ ap civilAnswer (toZ-ofZ (f .days))) dateNumbers _ (as-read (c .date .ok) (c .date .ensures .0)) (c .date .ensures .1)
+    let same = c .before .before .civil-from-days .ensures ∙ ap civilAnswer (toZ-ofZ (f .days)) in
+    placed same dateNumbers _ (as-read (c .date .ok) (c .date .ensures .0), c .date .ensures .1)
 
 pub ovenquill-civil-from-days-spec : {M : Type 1} → statement M
-ovenquill-civil-from-days-spec =
-    tie.close (tie.spec (λ c κs. tt) (λ c κs. tt) returns)
+ovenquill-civil-from-days-spec = tie.close (tie.spec (λ c κs. tt) (λ c κs. tt) returns)

@@ -10,8 +10,8 @@ use Rattle.player.proofs.ovenquill_day_of_year.Tie as tie
 returns : tie.Need-returns
 returns c =
     let f = c .before .before .fits in
-    as-read (c .returned-number .ok) (c .returned-number .ensures ∙ ap returned (c .before .day-of-year .ensures ∙ (λ i. dayOfYearAnswer (toZ-ofZ (f .year) i) (toZ-ofZ (f .month) i) (toZ-ofZ (f .day) i))))
+    let same = c .before .day-of-year .ensures ∙ (λ i. dayOfYearAnswer (toZ-ofZ (f .year) i) (toZ-ofZ (f .month) i) (toZ-ofZ (f .day) i)) in
+    as-read (c .returned-number .ok) (c .returned-number .ensures ∙ ap returned same)
 
 pub ovenquill-day-of-year-spec : {M : Type 1} → statement M
-ovenquill-day-of-year-spec =
-    tie.close (tie.spec (λ c κs. tt) (λ c κs. tt) returns)
+ovenquill-day-of-year-spec = tie.close (tie.spec (λ c κs. tt) (λ c κs. tt) returns)

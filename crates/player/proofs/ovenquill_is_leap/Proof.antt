@@ -10,8 +10,8 @@ use Rattle.player.proofs.ovenquill_is_leap.Tie as tie
 returns : tie.Need-returns
 returns c =
     let f = c .before .before .fits in
-    as-read (c .returned-flag .ok) (c .returned-flag .ensures ∙ ap returnedFlag (c .before .is-leap .ensures ∙ ap leapAnswer (toZ-ofZ (f .year))))
+    let same = c .before .is-leap .ensures ∙ ap leapAnswer (toZ-ofZ (f .year)) in
+    as-read (c .returned-flag .ok) (c .returned-flag .ensures ∙ ap returnedFlag same)
 
 pub ovenquill-is-leap-spec : {M : Type 1} → statement M
-ovenquill-is-leap-spec =
-    tie.close (tie.spec (λ c κs. tt) (λ c κs. tt) returns)
+ovenquill-is-leap-spec = tie.close (tie.spec (λ c κs. tt) (λ c κs. tt) returns)

@@ -10,8 +10,8 @@ use Rattle.player.proofs.ovenquill_last_day_of_month.Tie as tie
 returns : tie.Need-returns
 returns c =
     let f = c .before .before .fits in
-    as-read (c .returned-number .ok) (c .returned-number .ensures ∙ ap returned (c .before .last-day-of-month .ensures ∙ (λ i. lastDayAnswer (toZ-ofZ (f .year) i) (toZ-ofZ (f .month) i))))
+    let same = c .before .last-day-of-month .ensures ∙ (λ i. lastDayAnswer (toZ-ofZ (f .year) i) (toZ-ofZ (f .month) i)) in
+    as-read (c .returned-number .ok) (c .returned-number .ensures ∙ ap returned same)
 
 pub ovenquill-last-day-of-month-spec : {M : Type 1} → statement M
-ovenquill-last-day-of-month-spec =
-    tie.close (tie.spec (λ c κs. tt) (λ c κs. tt) returns)
+ovenquill-last-day-of-month-spec = tie.close (tie.spec (λ c κs. tt) (λ c κs. tt) returns)

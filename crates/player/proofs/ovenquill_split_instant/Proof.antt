@@ -10,8 +10,8 @@ use Rattle.player.proofs.ovenquill_split_instant.Tie as tie
 returns : tie.Need-returns
 returns c =
     let f = c .before .before .before .fits in
-    placed (c .before .before .split-instant .ensures ∙ ap splitAnswer (toZ-ofZ (f .instant))) fieldsNumbers _ (as-read (c .fields .ok) (c .fields .ensures .0)) (c .fields .ensures .1)
+    let same = c .before .before .split-instant .ensures ∙ ap splitAnswer (toZ-ofZ (f .instant)) in
+    placed same fieldsNumbers _ (as-read (c .fields .ok) (c .fields .ensures .0), c .fields .ensures .1)
 
 pub ovenquill-split-instant-spec : {M : Type 1} → statement M
-ovenquill-split-instant-spec =
-    tie.close (tie.spec (λ c κs. tt) (λ c κs. tt) returns)
+ovenquill-split-instant-spec = tie.close (tie.spec (λ c κs. tt) (λ c κs. tt) returns)

@@ -10,8 +10,8 @@ use Rattle.player.proofs.ovenquill_weekday.Tie as tie
 returns : tie.Need-returns
 returns c =
     let f = c .before .before .fits in
-    as-read (c .returned-number .ok) (c .returned-number .ensures ∙ ap returned (c .before .weekday-from-days .ensures ∙ ap weekdayAnswer (toZ-ofZ (f .days))))
+    let same = c .before .weekday-from-days .ensures ∙ ap weekdayAnswer (toZ-ofZ (f .days)) in
+    as-read (c .returned-number .ok) (c .returned-number .ensures ∙ ap returned same)
 
 pub ovenquill-weekday-spec : {M : Type 1} → statement M
-ovenquill-weekday-spec =
-    tie.close (tie.spec (λ c κs. tt) (λ c κs. tt) returns)
+ovenquill-weekday-spec = tie.close (tie.spec (λ c κs. tt) (λ c κs. tt) returns)

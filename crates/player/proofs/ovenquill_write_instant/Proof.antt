@@ -1,33 +1,21 @@
 -- What is returned is what the call answered: not more bytes than the buffer has, which fits.
-use mathlib.Core.Path.{sym, ap, _∙_}
 use native.Mathlib.Omega.{arith}
-use mir.Facts.{toZ-ofZ}
-use Rattle.numbers.proofs.Machine.{read}
 use Rattle.labels.specs.Rfc3339.{instantLabel}
-use Rattle.labels.specs.Written.{bytesWritten, writtenBuffer}
-use Rattle.player.specs.Returned.{returnedCount}
-use Rattle.player.proofs.Answered.{as-read}
-use Rattle.player.proofs.Fitting.{bytes-within}
+use Rattle.player.proofs.Answered.{as-read, label-written}
+use Rattle.player.proofs.Fitting.{bytes-fit}
 use borrow.Author.Needs.{needs}
 use Rattle.player.proofs.ovenquill_write_instant.Statement.{statement}
 use Rattle.player.proofs.ovenquill_write_instant.Tie as tie
 
 returned-bytes-requires : tie.Need-returned-bytes-requires
-returned-bytes-requires c κs n e =
+returned-bytes-requires c κs =
     let a = c .before .before .before .before .before .args in
-    let w = bytes-within (instantLabel (read (a .instant))) (a .out .now) n (sym (c .before .before .write-instant .ensures .0) ∙ e) in
-    omega arith
-
-same-length : tie.Need-same-length
-same-length c = search needs
+    bytes-fit (instantLabel _) (a .out .now) (omega arith) (c .before .before .write-instant .ensures .0)
 
 returns : tie.Need-returns
 returns c =
     let s = c .before .before .before .before .before .before in
-    let w = c .before .before .before .write-instant .ensures in
-    let l = ap instantLabel (toZ-ofZ (s .fits .instant)) in
-    (as-read (c .returned-bytes .ok) (c .returned-bytes .ensures ∙ ap returnedCount (w .0 ∙ ap (λ x. bytesWritten x (s .args .out .now)) l)), w .1 ∙ ap (λ x. writtenBuffer x (s .args .out .now)) l)
+    label-written instantLabel (s .fits .instant) (s .args .out .now) (c .before .before .before .write-instant .ensures) (as-read (c .returned-bytes .ok) (c .returned-bytes .ensures))
 
 pub ovenquill-write-instant-spec : {M : Type 1} → statement M
-ovenquill-write-instant-spec =
-    tie.close (tie.spec (λ c κs. tt) returned-bytes-requires same-length returns)
+ovenquill-write-instant-spec = tie.close (tie.spec (λ c κs. tt) returned-bytes-requires (λ c. search needs) returns)
