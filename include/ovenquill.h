@@ -16,8 +16,9 @@
  *   - A pointer with a length points to that many elements. It may be null only where the length is 0.
  *   - A pointer without a length points to one number or struct, and is not null.
  *   - What is pointed to is valid for the whole call and aligned for its type.
- *   - What is not const overlaps nothing else that is lent to the same call, and nobody else uses it meanwhile. What it
- *     holds before the call makes no difference to the answer.
+ *   - Nobody changes what is pointed to during the call; what is not const nobody reads either.
+ *   - What is not const overlaps nothing else that is lent to the same call. What it holds before the call makes no
+ *     difference to the answer.
  */
 #ifndef OVENQUILL_H
 #define OVENQUILL_H
