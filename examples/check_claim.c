@@ -96,6 +96,17 @@ static enum status check(const int64_t *n)
     }
 }
 
+/* Closes standard output; answers 0 where not everything could be written to it. */
+static int close_output(void)
+{
+    int failed = ferror(stdout);
+    if (fclose(stdout) != 0 || failed) {
+        fprintf(stderr, "check_claim: the answer could not be written to standard output\n");
+        return 0;
+    }
+    return 1;
+}
+
 int main(int argc, char **argv)
 {
     int64_t numbers[NUMBERS];
@@ -106,9 +117,5 @@ int main(int argc, char **argv)
     if (!read_numbers(argv + 1, numbers))
         return TROUBLE;
     enum status status = check(numbers);
-    if (fclose(stdout) != 0) {
-        fprintf(stderr, "check_claim: the answer could not be written to standard output\n");
-        return TROUBLE;
-    }
-    return (int)status;
+    return close_output() ? (int)status : TROUBLE;
 }
