@@ -13,7 +13,8 @@ RATTLE := crates.txt $(shell find crates -name '*.rt' -o -name '*.antt')
 # The version stands in the header, its three numbers a line each.
 VERSION := $(subst $() ,.,$(strip $(shell sed -n 's/^.define OVENQUILL_VERSION_[A-Z]* //p' include/ovenquill.h)))
 
-.PHONY: all demo test test-dates test-edits test-declarations test-c test-examples test-install test-rust test-readme bench install clean
+.PHONY: all demo test bench install clean
+.PHONY: test-dates test-edits test-declarations test-c test-examples test-install test-rust test-readme
 
 all: $(LIB) $(EXAMPLES)
 

@@ -74,7 +74,9 @@ extern "C" {
 #define OVENQUILL_LAST_COUNT INT64_C(2932896)
 
 /* Instants: milliseconds from 1970-01-01 00:00 UTC, below zero before it. Every day has as many; there are no leap seconds. */
-#define OVENQUILL_INSTANTS_PER_DAY INT64_C(86400000)
+#define OVENQUILL_INSTANTS_PER_DAY                                             \
+    ((OVENQUILL_LAST_HOUR + 1) * (OVENQUILL_LAST_MINUTE + 1)                   \
+     * (OVENQUILL_LAST_SECOND + 1) * (OVENQUILL_LAST_MILLISECOND + 1))
 #define OVENQUILL_FIRST_INSTANT (OVENQUILL_FIRST_COUNT * OVENQUILL_INSTANTS_PER_DAY)
 #define OVENQUILL_LAST_INSTANT ((OVENQUILL_LAST_COUNT + 1) * OVENQUILL_INSTANTS_PER_DAY - 1)
 

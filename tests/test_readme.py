@@ -25,7 +25,7 @@ def programs(blocks):
         if language in ("c", "rust"):
             following = blocks[place + 1] if place + 1 < len(blocks) else ("", "")
             if following[0] != "text":
-                sys.exit(f"FAILED: README.md has no output behind its program\n{text}")
+                sys.exit(f"FAILED: README.md has no output after its program\n{text}")
             found.append((language, text, following[1]))
     return found
 
@@ -71,7 +71,7 @@ int main(void)
 
 
 def check_refusals(readme):
-    """A cause of README's table ends with its first semicolon: what is behind that says what else is handed back."""
+    """A cause of README's table ends with its first semicolon: what follows says what else is handed back."""
     rows = re.findall(r"^\| (\d+) \| (.*?)(?:;.*)? \|$", readme, re.M)
     if not rows or [int(number) for number, _ in rows] != list(range(1, len(rows) + 1)):
         sys.exit("FAILED: README.md's refusals are not numbered from 1")

@@ -1,6 +1,6 @@
 /*
  * Every call, with what it is lent in heap blocks of exactly that size. Answers, buffers, lists and places are held to plain.h,
- * whole: what a refused call was lent and what stands behind a label must be as it was. Compiled as C and as C++.
+ * whole: what a refused call was lent and what stands after a label must be as it was. Compiled as C and as C++.
  */
 #include <string.h>
 
