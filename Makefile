@@ -13,7 +13,8 @@ RATTLE := crates.txt $(shell find crates -name '*.rt' -o -name '*.antt')
 # The version stands in the header, its three numbers a line each.
 VERSION := $(subst $() ,.,$(strip $(shell sed -n 's/^.define OVENQUILL_VERSION_[A-Z]* //p' include/ovenquill.h)))
 
-.PHONY: all demo test test-dates test-declarations test-c test-examples test-install test-rust test-readme bench install clean
+.PHONY: all demo test bench install clean
+.PHONY: test-dates test-edits test-declarations test-c test-examples test-install test-rust test-readme
 
 all: $(LIB) $(EXAMPLES)
 
@@ -30,11 +31,15 @@ demo: $(EXAMPLES)
 	printf '%s\n' 1683729000000 -1 0 951782400000 -2208988800000 | build/player
 	build/check_claim 1 0 10 26 0 8 0 69
 
-test: test-dates test-declarations test-c test-examples test-install test-rust test-readme
+test: test-dates test-edits test-declarations test-c test-examples test-install test-rust test-readme
 
 # The expected output of the program `dates` is what an independent program prints today.
 test-dates:
 	python3 tools/dates.py | cmp - crates/dates/stdout
+
+# Every must-fail edit still fits the file that it changes; whether it is refused is for `rt must-fail` to say.
+test-edits:
+	tools/check_edits
 
 # The exports, the header and the Rust package declare the same calls; and the tool that says so sees a fault.
 test-declarations:
@@ -50,13 +55,10 @@ test-examples: $(EXAMPLES)
 test-install: $(LIB)
 	tests/install/run
 
-test-rust: $(LIB)
-	tests/rust/run
-
 test-readme: $(LIB)
 	tests/test_readme.py
 
-# libstdc++'s calendar is one of the rivals where there is a C++ compiler.
+# libstdc++'s calendar is one of the benchmarks' rivals where there is a C++ compiler; the tests compile the benchmarks too.
 build/chrono/libovenquill_chrono.a: rust/benches/chrono.cpp
 	mkdir -p build/chrono
 	$(CXX) -O3 -std=c++20 -c $< -o build/chrono/chrono.o
@@ -64,8 +66,11 @@ build/chrono/libovenquill_chrono.a: rust/benches/chrono.cpp
 
 ifneq ($(shell command -v $(CXX)),)
 CHRONO := build/chrono/libovenquill_chrono.a
-bench: export OVENQUILL_CHRONO := $(CURDIR)/build/chrono
+bench test-rust: export OVENQUILL_CHRONO := $(CURDIR)/build/chrono
 endif
+
+test-rust: $(LIB) $(CHRONO)
+	tests/rust/run
 
 bench: $(LIB) $(CHRONO)
 	cd rust && cargo bench --quiet

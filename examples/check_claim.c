@@ -4,13 +4,15 @@
  *     check_claim A B D M C K T BOUND
  *
  * The exact quotient at n is (A*n + B) / D, rounded down; the device's is (M*n + C) >> K. A difference is an n at which the two
- * are more than T apart, and the claim says that the least one is BOUND. The exit status is 0 where the claim is accepted,
- * 1 where it is turned down, and 2 where there was no claim to check or the answer could not be written.
+ * are more than T apart, and the claim says that the least one is BOUND. The exit status is 0 where the claim is accepted and
+ * 1 where it is turned down; standard output then says why. It is 2 where there was no claim to check, because a number is
+ * missing, is none or is outside its limits, or where the answer could not be written; standard error then says why.
  */
 #include <errno.h>
 #include <inttypes.h>
 #include <stdio.h>
 #include <stdlib.h>
+#include <string.h>
 
 #include "ovenquill.h"
 
@@ -28,13 +30,13 @@ static const struct {
     [T] = {"t", OVENQUILL_T_MIN, OVENQUILL_T_MAX}, [BOUND] = {"bound", OVENQUILL_BOUND_MIN, OVENQUILL_BOUND_MAX},
 };
 
-static void print_usage(void)
+static void print_usage(FILE *out)
 {
-    fprintf(stderr, "usage: check_claim A B D M C K T BOUND\n"
-                    "Is BOUND the least n at which (M*n + C) >> K is more than T away from (A*n + B) / D?\n");
+    fprintf(out, "usage: check_claim A B D M C K T BOUND\n"
+                 "Is BOUND the least n at which (M*n + C) >> K is more than T away from (A*n + B) / D?\n");
     for (int i = 0; i < NUMBERS; i++)
-        fprintf(stderr, "  %-5s  %" PRId64 " to %" PRId64 "\n", limits[i].name, limits[i].min, limits[i].max);
-    fprintf(stderr, "For instance: check_claim 1 0 10 26 0 8 0 69\n");
+        fprintf(out, "  %-5s  %" PRId64 " to %" PRId64 "\n", limits[i].name, limits[i].min, limits[i].max);
+    fprintf(out, "For instance: check_claim 1 0 10 26 0 8 0 69\n");
 }
 
 /* Reads the claim's numbers; answers 0 where an argument is no whole number of 64 bits. */
@@ -65,8 +67,13 @@ static void print_numbers_outside(const int64_t *n)
 {
     for (int i = 0; i < NUMBERS; i++)
         if (n[i] < limits[i].min || n[i] > limits[i].max)
-            printf("%s is %" PRId64 ", allowed are %" PRId64 " to %" PRId64 "\n", limits[i].name, n[i], limits[i].min,
-                   limits[i].max);
+            fprintf(stderr, "check_claim: %s is %" PRId64 ", allowed are %" PRId64 " to %" PRId64 "\n", limits[i].name, n[i],
+                    limits[i].min, limits[i].max);
+}
+
+static void print_refusal(FILE *out, int64_t answer)
+{
+    fprintf(out, "refused (%" PRId64 "): %s\n", -answer, ovenquill_refusal_text(answer));
 }
 
 /* Checks the claim and explains the answer. */
@@ -74,41 +81,53 @@ static enum status check(const int64_t *n)
 {
     int64_t least;
     int64_t answer = ovenquill_check_bound(n[A], n[B], n[D], n[M], n[C], n[K], n[T], n[BOUND], &least);
-    if (answer == 0)
-        printf("accepted: the least difference is at %" PRId64 "\n", n[BOUND]);
-    else
-        printf("refused (%" PRId64 "): %s\n", -answer, ovenquill_refusal_text(answer));
     switch (answer) {
     case 0:
+        printf("accepted: the least difference is at %" PRId64 "\n", n[BOUND]);
         print_quotients(n, n[BOUND]);
         return ACCEPTED;
     case OVENQUILL_DIFFERENCE_BELOW_BOUND:
+        print_refusal(stdout, answer);
         print_quotients(n, least);
         printf("no smaller n has a difference: a claim of %" PRId64 " would be accepted\n", least);
         return TURNED_DOWN;
     case OVENQUILL_NO_DIFFERENCE_UP_TO_BOUND:
+        print_refusal(stdout, answer);
         print_quotients(n, n[BOUND]);
         printf("they are at most %" PRId64 " apart there and at every smaller n\n", n[T]);
         return TURNED_DOWN;
     default:
+        fprintf(stderr, "check_claim: ");
+        print_refusal(stderr, answer);
         print_numbers_outside(n);
         return TROUBLE;
     }
 }
 
+/* Closes standard output; answers 0 where not everything could be written to it. */
+static int close_output(void)
+{
+    int failed = ferror(stdout);
+    if (fclose(stdout) != 0 || failed) {
+        fprintf(stderr, "check_claim: the answer could not be written to standard output\n");
+        return 0;
+    }
+    return 1;
+}
+
 int main(int argc, char **argv)
 {
     int64_t numbers[NUMBERS];
+    if (argc == 2 && strcmp(argv[1], "--help") == 0) {
+        print_usage(stdout);
+        return close_output() ? 0 : TROUBLE;
+    }
     if (argc != NUMBERS + 1) {
-        print_usage();
+        print_usage(stderr);
         return TROUBLE;
     }
     if (!read_numbers(argv + 1, numbers))
         return TROUBLE;
     enum status status = check(numbers);
-    if (fclose(stdout) != 0) {
-        fprintf(stderr, "check_claim: the answer could not be written to standard output\n");
-        return TROUBLE;
-    }
-    return (int)status;
+    return close_output() ? (int)status : TROUBLE;
 }

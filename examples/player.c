@@ -1,12 +1,13 @@
 /*
- * A small player shell: prints the label and the weekday of each instant.
+ * Prints the label and the weekday of each instant of a recording, as a player would show them.
  *
  *     player MILLISECONDS ..        instants as arguments
  *     player < FILE                 one instant to a line; empty lines are passed over
  *
- * An instant is a whole number of milliseconds from 1970-01-01 00:00 UTC. A line that is none gets a message on standard
- * error, and the others still get their labels. The exit status is 1 where an instant was bad or refused, or where not
- * everything could be read or written.
+ * An instant is a whole number of milliseconds from 1970-01-01 00:00 UTC. Standard output has labels and nothing else: a line or
+ * an argument that is no instant, or whose instant is refused, gets a message with its number on standard error, and the others
+ * still get their labels. The exit status is 1 where an instant was bad or refused, or where not everything could be read or
+ * written.
  */
 #include <errno.h>
 #include <inttypes.h>
@@ -42,23 +43,38 @@ static int64_t print_label(int64_t instant)
     return 0;
 }
 
+/* Where an instant was handed in: "line 3" or "argument 3". */
+struct origin {
+    const char *kind;
+    long number;
+};
+
+/* Begins a message about what was handed in there. */
+static void begin_message(struct origin origin)
+{
+    fprintf(stderr, "player: %s %ld: ", origin.kind, origin.number);
+}
+
 /* Prints the line of one instant; answers 0, or 1 where the text is no instant or is refused. */
-static int show(const char *text)
+static int show(const char *text, struct origin origin)
 {
     char *end;
     errno = 0;
     long long instant = strtoll(text, &end, 10);
     if (end == text || end[strspn(end, blanks)] != '\0') {
-        fprintf(stderr, "player: \"%s\" is no whole number of milliseconds\n", text);
+        begin_message(origin);
+        fprintf(stderr, "\"%s\" is no whole number of milliseconds\n", text);
         return 1;
     }
     if (errno == ERANGE) {
-        fprintf(stderr, "player: \"%s\" does not fit 64 bits\n", text);
+        begin_message(origin);
+        fprintf(stderr, "\"%s\" does not fit 64 bits\n", text);
         return 1;
     }
     int64_t answer = print_label(instant);
     if (answer < 0) {
-        printf("%lld refused (%" PRId64 "): %s\n", instant, -answer, ovenquill_refusal_text(answer));
+        begin_message(origin);
+        fprintf(stderr, "%lld is refused (%" PRId64 "): %s\n", instant, -answer, ovenquill_refusal_text(answer));
         return 1;
     }
     return 0;
@@ -91,16 +107,20 @@ static int read_line(FILE *in, struct line *line)
 static int show_lines(FILE *in)
 {
     struct line line;
+    struct origin origin = {"line", 0};
     int status = 0;
     while (!ferror(stdout) && read_line(in, &line)) {
+        origin.number++;
         if (line.length >= sizeof line.text) {
-            fprintf(stderr, "player: a line of more than %zu bytes is no instant\n", sizeof line.text - 1);
+            begin_message(origin);
+            fprintf(stderr, "more than %zu bytes are no instant\n", sizeof line.text - 1);
             status = 1;
         } else if (line.has_zero_byte) {
-            fprintf(stderr, "player: a line with a zero byte is no instant\n");
+            begin_message(origin);
+            fprintf(stderr, "a zero byte is in no instant\n");
             status = 1;
         } else if (line.text[strspn(line.text, blanks)] != '\0') {
-            status |= show(line.text);
+            status |= show(line.text, origin);
         }
     }
     if (ferror(in)) {
@@ -124,9 +144,13 @@ static int close_output(void)
 int main(int argc, char **argv)
 {
     int status = 0;
-    if (argc < 2)
+    if (argc == 2 && strcmp(argv[1], "--help") == 0)
+        printf("usage: player MILLISECONDS .., or player < FILE with one instant to a line\n"
+               "An instant is a whole number of milliseconds from 1970-01-01 00:00 UTC.\n");
+    else if (argc < 2)
         status = show_lines(stdin);
-    for (int i = 1; i < argc; i++)
-        status |= show(argv[i]);
+    else
+        for (int i = 1; i < argc; i++)
+            status |= show(argv[i], (struct origin){"argument", i});
     return status | close_output();
 }

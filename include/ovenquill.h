@@ -5,19 +5,24 @@
  * For C99, C++11 and later ones. Link with libovenquill.a; after `make install`, `pkg-config --cflags --libs ovenquill` says
  * how.
  *
- * Any numbers and any bytes may be handed in. A call allocates nothing, keeps no state and may be made from any thread.
+ * The archive is for x86-64 with ELF and is position independent: it also goes into a shared library. Header and archive go
+ * together: nothing tells at run time that they are of different versions.
+ *
+ * Any numbers and any bytes may be handed in. A call allocates nothing, keeps no state, calls no function outside the archive
+ * and leaves errno alone: it may be made from any thread and from a signal handler.
  *
  * Every call returns 0 or more where it is done, and below 0 where it is refused: the refusal's number negated, which has a
  * macro below. The refusals of a call are listed in the order in which they are looked for; the first whose cause holds is
  * answered. A refused call changes nothing that was lent to it. Two refusals hand back more than their number: each writes
- * that to a place of its own, `place` or `least`, which is unchanged after every other answer.
+ * that to a number of its own, `place` or `least`, which is unchanged after every other answer.
  *
  * What is asked of the pointers that are handed in:
  *   - A pointer with a length points to that many elements. It may be null only where the length is 0.
  *   - A pointer without a length points to one number or struct, and is not null.
  *   - What is pointed to is valid for the whole call and aligned for its type.
- *   - What is not const overlaps nothing else that is lent to the same call, and nobody else uses it meanwhile. What it
- *     holds before the call makes no difference to the answer.
+ *   - Nobody changes what is pointed to during the call; what is not const nobody reads either.
+ *   - What is not const overlaps nothing else that is lent to the same call. What it holds before the call makes no
+ *     difference to the answer.
  */
 #ifndef OVENQUILL_H
 #define OVENQUILL_H
@@ -37,26 +42,51 @@ extern "C" {
 #define OVENQUILL_DOTTED_(major, minor, patch) OVENQUILL_STRING_(major.minor.patch)
 #define OVENQUILL_STRING_(tokens) #tokens
 
-/* Ranges, ends included. */
+/* Ranges, ends included. A name that ends in _ has the bare digits, for the texts of the refusals. */
+#define OVENQUILL_NUMBER_(digits) INT64_C(digits)
+#define OVENQUILL_TEXT_(digits) OVENQUILL_STRING_(digits)
+#define OVENQUILL_RANGE_TEXT_(first, last) OVENQUILL_STRING_(first) ".." OVENQUILL_STRING_(last)
 
 /* Years. The calendar ends with the last day of the last year. */
-#define OVENQUILL_FIRST_YEAR INT64_C(0)
-#define OVENQUILL_LAST_YEAR INT64_C(9999)
+#define OVENQUILL_FIRST_YEAR_ 0
+#define OVENQUILL_LAST_YEAR_ 9999
+#define OVENQUILL_FIRST_YEAR OVENQUILL_NUMBER_(OVENQUILL_FIRST_YEAR_)
+#define OVENQUILL_LAST_YEAR OVENQUILL_NUMBER_(OVENQUILL_LAST_YEAR_)
+
+/* Months, the first of them January; a month's days begin with 1, and ovenquill_last_day_of_month answers the last. */
+#define OVENQUILL_FIRST_MONTH_ 1
+#define OVENQUILL_LAST_MONTH_ 12
+#define OVENQUILL_FIRST_MONTH OVENQUILL_NUMBER_(OVENQUILL_FIRST_MONTH_)
+#define OVENQUILL_LAST_MONTH OVENQUILL_NUMBER_(OVENQUILL_LAST_MONTH_)
+
+/* The time of day: hours, minutes, seconds and milliseconds, each from 0. */
+#define OVENQUILL_LAST_HOUR_ 23
+#define OVENQUILL_LAST_MINUTE_ 59
+#define OVENQUILL_LAST_SECOND_ 59
+#define OVENQUILL_LAST_MILLISECOND_ 999
+#define OVENQUILL_LAST_HOUR OVENQUILL_NUMBER_(OVENQUILL_LAST_HOUR_)
+#define OVENQUILL_LAST_MINUTE OVENQUILL_NUMBER_(OVENQUILL_LAST_MINUTE_)
+#define OVENQUILL_LAST_SECOND OVENQUILL_NUMBER_(OVENQUILL_LAST_SECOND_)
+#define OVENQUILL_LAST_MILLISECOND OVENQUILL_NUMBER_(OVENQUILL_LAST_MILLISECOND_)
 
 /* Day counts: days from 1970-01-01, below zero before it. */
 #define OVENQUILL_FIRST_COUNT (-INT64_C(719528))
 #define OVENQUILL_LAST_COUNT INT64_C(2932896)
 
 /* Instants: milliseconds from 1970-01-01 00:00 UTC, below zero before it. Every day has as many; there are no leap seconds. */
-#define OVENQUILL_INSTANTS_PER_DAY INT64_C(86400000)
+#define OVENQUILL_INSTANTS_PER_DAY                                             \
+    ((OVENQUILL_LAST_HOUR + 1) * (OVENQUILL_LAST_MINUTE + 1)                   \
+     * (OVENQUILL_LAST_SECOND + 1) * (OVENQUILL_LAST_MILLISECOND + 1))
 #define OVENQUILL_FIRST_INSTANT (OVENQUILL_FIRST_COUNT * OVENQUILL_INSTANTS_PER_DAY)
 #define OVENQUILL_LAST_INSTANT ((OVENQUILL_LAST_COUNT + 1) * OVENQUILL_INSTANTS_PER_DAY - 1)
 
 /* Positions: milliseconds from the start of a recording. */
-#define OVENQUILL_FIRST_POSITION INT64_C(0)
-#define OVENQUILL_LAST_POSITION INT64_C(359999999999)
+#define OVENQUILL_FIRST_POSITION_ 0
+#define OVENQUILL_LAST_POSITION_ 359999999999
+#define OVENQUILL_FIRST_POSITION OVENQUILL_NUMBER_(OVENQUILL_FIRST_POSITION_)
+#define OVENQUILL_LAST_POSITION OVENQUILL_NUMBER_(OVENQUILL_LAST_POSITION_)
 
-/* Constants on trial, the end of a search and the bound of a claim. */
+/* The constants that are checked, the end of a search and the bound of a claim. */
 #define OVENQUILL_A_MIN INT64_C(1)
 #define OVENQUILL_A_MAX INT64_C(1023)
 #define OVENQUILL_B_MIN INT64_C(0)
@@ -74,9 +104,9 @@ extern "C" {
 #define OVENQUILL_END_MIN INT64_C(0)
 #define OVENQUILL_END_MAX INT64_C(4294967295)
 #define OVENQUILL_BOUND_MIN INT64_C(0)
-#define OVENQUILL_BOUND_MAX INT64_C(4294967294)
+#define OVENQUILL_BOUND_MAX (OVENQUILL_END_MAX - 1)
 
-/* The bytes of an instant label, and the fewest and the most of a position label. No zero byte is written behind a label. */
+/* The bytes of an instant label, and the fewest and the most of a position label. No zero byte is written after a label. */
 #define OVENQUILL_INSTANT_LABEL_BYTES 24
 #define OVENQUILL_POSITION_LABEL_MIN_BYTES 12
 #define OVENQUILL_POSITION_LABEL_MAX_BYTES 15
@@ -90,7 +120,7 @@ extern "C" {
 #define OVENQUILL_FRIDAY 5
 #define OVENQUILL_SATURDAY 6
 
-/* Refusals, as the calls answer them: the number of README.md's table, negated. */
+/* Refusals, as the calls answer them: each one's number, negated. */
 #define OVENQUILL_YEAR_OUT_OF_RANGE (-1)
 #define OVENQUILL_MONTH_OUT_OF_RANGE (-2)
 #define OVENQUILL_DAY_OUT_OF_RANGE (-3)
@@ -109,27 +139,31 @@ static inline const char *ovenquill_refusal_text(int64_t answer)
 {
     switch (answer) {
     case OVENQUILL_YEAR_OUT_OF_RANGE:
-        return "year outside the calendar";
+        return "year outside " OVENQUILL_RANGE_TEXT_(OVENQUILL_FIRST_YEAR_, OVENQUILL_LAST_YEAR_);
     case OVENQUILL_MONTH_OUT_OF_RANGE:
-        return "month outside 1 to 12";
+        return "month outside " OVENQUILL_RANGE_TEXT_(OVENQUILL_FIRST_MONTH_, OVENQUILL_LAST_MONTH_);
     case OVENQUILL_DAY_OUT_OF_RANGE:
-        return "day that its month does not have";
+        return "day outside 1..length of that month";
     case OVENQUILL_OUT_OF_RANGE:
-        return "day count, instant or shifted date outside the calendar";
+        return "day count, instant or shifted date outside the range";
     case OVENQUILL_TIME_OUT_OF_RANGE:
-        return "hour, minute, second or millisecond outside its range";
+        return "hour outside " OVENQUILL_RANGE_TEXT_(0, OVENQUILL_LAST_HOUR_)
+               ", minute or second outside " OVENQUILL_RANGE_TEXT_(0, OVENQUILL_LAST_MINUTE_)
+               ", or millisecond outside " OVENQUILL_RANGE_TEXT_(0, OVENQUILL_LAST_MILLISECOND_);
     case OVENQUILL_POSITION_OUT_OF_RANGE:
-        return "position outside its range";
+        return "position below " OVENQUILL_TEXT_(OVENQUILL_FIRST_POSITION_)
+               " or above " OVENQUILL_TEXT_(OVENQUILL_LAST_POSITION_);
     case OVENQUILL_BUFFER_TOO_SHORT:
         return "buffer shorter than the label";
     case OVENQUILL_MALFORMED_LABEL:
-        return "not the shape of an instant label";
+        return "label not " OVENQUILL_TEXT_(OVENQUILL_INSTANT_LABEL_BYTES)
+               " bytes, a non-digit where a digit stands, or a wrong mark";
     case OVENQUILL_CONSTANT_OUT_OF_LIMITS:
-        return "constant, search end or claimed bound outside its limits";
+        return "a constant, a search end or a claimed bound outside its limits";
     case OVENQUILL_DIFFERENCE_BELOW_BOUND:
-        return "a difference stands below the claimed bound";
+        return "claim: a difference stands below the bound";
     case OVENQUILL_NO_DIFFERENCE_UP_TO_BOUND:
-        return "no difference at or below the claimed bound";
+        return "claim: no difference at or below the bound";
     case OVENQUILL_UNEQUAL_LENGTHS:
         return "index lists of unequal length";
     default:
@@ -137,14 +171,17 @@ static inline const char *ovenquill_refusal_text(int64_t answer)
     }
 }
 
-/* A date: month 1 to 12, day 1 to the length of the month. */
+/* A date: month OVENQUILL_FIRST_MONTH to OVENQUILL_LAST_MONTH, day 1 to the length of the month. */
 typedef struct ovenquill_date {
     int64_t year;
     int64_t month;
     int64_t day;
 } ovenquill_date;
 
-/* The date and the time of day of an instant: hour 0 to 23, minute and second 0 to 59, millisecond 0 to 999. */
+/*
+ * The date and the time of day of an instant: hour 0 to OVENQUILL_LAST_HOUR, minute 0 to OVENQUILL_LAST_MINUTE, second 0 to
+ * OVENQUILL_LAST_SECOND, millisecond 0 to OVENQUILL_LAST_MILLISECOND.
+ */
 typedef struct ovenquill_fields {
     int64_t year;
     int64_t month;
@@ -162,7 +199,7 @@ typedef struct ovenquill_fields {
  *
  * Refusals, after which `days` is unchanged:
  *   OVENQUILL_YEAR_OUT_OF_RANGE    year outside OVENQUILL_FIRST_YEAR to OVENQUILL_LAST_YEAR
- *   OVENQUILL_MONTH_OUT_OF_RANGE   month outside 1 to 12
+ *   OVENQUILL_MONTH_OUT_OF_RANGE   month outside OVENQUILL_FIRST_MONTH to OVENQUILL_LAST_MONTH
  *   OVENQUILL_DAY_OUT_OF_RANGE     day outside 1 to the length of that month
  */
 int64_t ovenquill_days_from_civil(int64_t year, int64_t month, int64_t day, int64_t *days);
@@ -196,7 +233,7 @@ int64_t ovenquill_is_leap(int64_t year);
  *
  * Refusals:
  *   OVENQUILL_YEAR_OUT_OF_RANGE    year outside OVENQUILL_FIRST_YEAR to OVENQUILL_LAST_YEAR
- *   OVENQUILL_MONTH_OUT_OF_RANGE   month outside 1 to 12
+ *   OVENQUILL_MONTH_OUT_OF_RANGE   month outside OVENQUILL_FIRST_MONTH to OVENQUILL_LAST_MONTH
  */
 int64_t ovenquill_last_day_of_month(int64_t year, int64_t month);
 
@@ -205,18 +242,18 @@ int64_t ovenquill_last_day_of_month(int64_t year, int64_t month);
  *
  * Refusals:
  *   OVENQUILL_YEAR_OUT_OF_RANGE    year outside OVENQUILL_FIRST_YEAR to OVENQUILL_LAST_YEAR
- *   OVENQUILL_MONTH_OUT_OF_RANGE   month outside 1 to 12
+ *   OVENQUILL_MONTH_OUT_OF_RANGE   month outside OVENQUILL_FIRST_MONTH to OVENQUILL_LAST_MONTH
  *   OVENQUILL_DAY_OUT_OF_RANGE     day outside 1 to the length of that month
  */
 int64_t ovenquill_day_of_year(int64_t year, int64_t month, int64_t day);
 
 /*
- * The date that lies a number of days behind a date, or before it where that number is below zero: the one whose day count is
+ * The date that lies a number of days after a date, or before it where that number is below zero: the one whose day count is
  * the sum. Writes it to `date` and answers 0. The sum is taken in whole numbers, so none wraps.
  *
  * Refusals, after which `date` is unchanged:
  *   OVENQUILL_YEAR_OUT_OF_RANGE    year outside OVENQUILL_FIRST_YEAR to OVENQUILL_LAST_YEAR
- *   OVENQUILL_MONTH_OUT_OF_RANGE   month outside 1 to 12
+ *   OVENQUILL_MONTH_OUT_OF_RANGE   month outside OVENQUILL_FIRST_MONTH to OVENQUILL_LAST_MONTH
  *   OVENQUILL_DAY_OUT_OF_RANGE     day outside 1 to the length of that month
  *   OVENQUILL_OUT_OF_RANGE         the sum outside OVENQUILL_FIRST_COUNT to OVENQUILL_LAST_COUNT
  */
@@ -246,20 +283,21 @@ int64_t ovenquill_split_instant(int64_t instant, ovenquill_fields *fields);
  *
  * Refusals, after which `instant` is unchanged:
  *   OVENQUILL_YEAR_OUT_OF_RANGE    year outside OVENQUILL_FIRST_YEAR to OVENQUILL_LAST_YEAR
- *   OVENQUILL_MONTH_OUT_OF_RANGE   month outside 1 to 12
+ *   OVENQUILL_MONTH_OUT_OF_RANGE   month outside OVENQUILL_FIRST_MONTH to OVENQUILL_LAST_MONTH
  *   OVENQUILL_DAY_OUT_OF_RANGE     day outside 1 to the length of that month
- *   OVENQUILL_TIME_OUT_OF_RANGE    hour outside 0 to 23, minute or second outside 0 to 59, or millisecond outside 0 to 999
+ *   OVENQUILL_TIME_OUT_OF_RANGE    hour, minute, second or millisecond below 0 or above OVENQUILL_LAST_HOUR,
+ *                                  OVENQUILL_LAST_MINUTE, OVENQUILL_LAST_SECOND or OVENQUILL_LAST_MILLISECOND
  */
 int64_t ovenquill_join_instant(int64_t year, int64_t month, int64_t day, int64_t hour, int64_t minute, int64_t second,
                                int64_t millisecond, int64_t *instant);
 
 /*
- * The days of a recording index. Writes the day count of each instant, as ovenquill_day_of_instant gives it, to the same place
+ * The days of a recording index. Writes the day count of each instant, as ovenquill_day_of_instant gives it, to the same index
  * of `days`, and answers how many it wrote, `count`; two empty lists are accepted. `place` is then unchanged.
  *
  * Refusals, after which no element of `days` is changed:
  *   OVENQUILL_UNEQUAL_LENGTHS   count is not days_length; `place` is unchanged
- *   OVENQUILL_OUT_OF_RANGE      an instant outside OVENQUILL_FIRST_INSTANT to OVENQUILL_LAST_INSTANT; the place of the first
+ *   OVENQUILL_OUT_OF_RANGE      an instant outside OVENQUILL_FIRST_INSTANT to OVENQUILL_LAST_INSTANT; the index of the first
  *                               such, counted from 0, is written to `place`
  */
 int64_t ovenquill_index_days(const int64_t *instants, size_t count, int32_t *days, size_t days_length, int64_t *place);
@@ -268,7 +306,7 @@ int64_t ovenquill_index_days(const int64_t *instants, size_t count, int32_t *day
 
 /*
  * Writes the label of an instant to the front of `out`, and answers the bytes written, OVENQUILL_INSTANT_LABEL_BYTES. The
- * bytes behind them are unchanged.
+ * bytes after them are unchanged.
  *
  * Refusals, after which no byte of `out` is changed:
  *   OVENQUILL_OUT_OF_RANGE       instant outside OVENQUILL_FIRST_INSTANT to OVENQUILL_LAST_INSTANT
@@ -282,10 +320,11 @@ int64_t ovenquill_write_instant(int64_t instant, uint8_t *out, size_t length);
  *
  * Refusals, after which `instant` is unchanged:
  *   OVENQUILL_MALFORMED_LABEL      length other than OVENQUILL_INSTANT_LABEL_BYTES, a byte that is no decimal digit where one
- *                                  stands, or a wrong mark
- *   OVENQUILL_MONTH_OUT_OF_RANGE   month outside 1 to 12
+ *                                  must stand, or a wrong mark
+ *   OVENQUILL_MONTH_OUT_OF_RANGE   month outside OVENQUILL_FIRST_MONTH to OVENQUILL_LAST_MONTH
  *   OVENQUILL_DAY_OUT_OF_RANGE     day outside 1 to the length of that month
- *   OVENQUILL_TIME_OUT_OF_RANGE    hour above 23, or minute or second above 59
+ *   OVENQUILL_TIME_OUT_OF_RANGE    hour, minute or second above OVENQUILL_LAST_HOUR, OVENQUILL_LAST_MINUTE or
+ *                                  OVENQUILL_LAST_SECOND
  */
 int64_t ovenquill_read_instant(const uint8_t *label, size_t length, int64_t *instant);
 
@@ -293,7 +332,7 @@ int64_t ovenquill_read_instant(const uint8_t *label, size_t length, int64_t *ins
 
 /*
  * Writes the label of a position to the front of `out`, and answers the bytes written, OVENQUILL_POSITION_LABEL_MIN_BYTES to
- * OVENQUILL_POSITION_LABEL_MAX_BYTES. The bytes behind them are unchanged.
+ * OVENQUILL_POSITION_LABEL_MAX_BYTES. The bytes after them are unchanged.
  *
  * Refusals, after which no byte of `out` is changed:
  *   OVENQUILL_POSITION_OUT_OF_RANGE   position outside OVENQUILL_FIRST_POSITION to OVENQUILL_LAST_POSITION
@@ -302,16 +341,16 @@ int64_t ovenquill_read_instant(const uint8_t *label, size_t length, int64_t *ins
 int64_t ovenquill_write_position(int64_t position, uint8_t *out, size_t length);
 
 /*
- * Constants on trial. The exact quotient at n is (a*n + b) / d, rounded down; the device's quotient is (m*n + c) >> k. A
- * difference at n means that the two are more than t apart. n is a whole number from 0.
+ * Constants of a multiply-and-shift. The exact quotient at n is (a*n + b) / d, rounded down; the device's quotient is
+ * (m*n + c) >> k. A difference at n means that the two are more than t apart. n is a whole number from 0.
  */
 
 /*
  * The first difference. Answers the least n below `end` with a difference, or `end` where there is none below it.
  *
  * Refusal:
- *   OVENQUILL_CONSTANT_OUT_OF_LIMITS   any of the eight outside OVENQUILL_A_MIN to OVENQUILL_A_MAX, .., OVENQUILL_END_MIN to
- *                                      OVENQUILL_END_MAX
+ *   OVENQUILL_CONSTANT_OUT_OF_LIMITS   a, b, d, m, c, k, t or end outside its limits, OVENQUILL_A_MIN to OVENQUILL_A_MAX for a
+ *                                      and by the same names for the other seven
  */
 int64_t ovenquill_first_difference(int64_t a, int64_t b, int64_t d, int64_t m, int64_t c, int64_t k, int64_t t, int64_t end);
 
@@ -319,8 +358,8 @@ int64_t ovenquill_first_difference(int64_t a, int64_t b, int64_t d, int64_t m, i
  * The claim that the least n with a difference is `bound`. Answers 0 where it is; `least` is then unchanged.
  *
  * Refusals:
- *   OVENQUILL_CONSTANT_OUT_OF_LIMITS      any of the eight outside OVENQUILL_A_MIN to OVENQUILL_A_MAX, .., OVENQUILL_BOUND_MIN
- *                                         to OVENQUILL_BOUND_MAX; `least` is unchanged
+ *   OVENQUILL_CONSTANT_OUT_OF_LIMITS      a, b, d, m, c, k, t or bound outside its limits, OVENQUILL_A_MIN to OVENQUILL_A_MAX
+ *                                         for a and by the same names for the other seven; `least` is unchanged
  *   OVENQUILL_DIFFERENCE_BELOW_BOUND      a difference below bound; the least n with one is written to `least`
  *   OVENQUILL_NO_DIFFERENCE_UP_TO_BOUND   no difference at any n up to bound, bound included; `least` is unchanged
  */

@@ -43,6 +43,17 @@ FAULTS = [
     (RATTLE, "a renamed parameter", r"(ovenquill_first_difference\([^)]*\b)end: i64", r"\1stop: i64", "ovenquill_first_difference"),
     (HEADER, "another answer", r"int64_t (ovenquill_weekday\()", r"int32_t \1", "ovenquill_weekday"),
     (RUST, "no answer", r"(fn ovenquill_weekday\([^)]*\)) -> i64", r"\1", "ovenquill_weekday"),
+    (RUST, "a struct of another name", r"pub struct Fields \{", "pub struct Parts {", "ovenquill_fields"),
+    (RUST, "a struct that is not C's", r"(split_instant\([^)]*\*mut (\w+::)*)Fields\b", r"\1Other", "ovenquill_split_instant"),
+    (RUST, "a packed struct", r"#\[repr\(C\)\]", "#[repr(C)]\n#[repr(packed(1))]", "repr(C)"),
+    (RUST, "a struct in two forms", r"#\[repr\(C\)\]", "#[repr(C, packed(1))]", "repr(C)"),
+    (RUST, "a second block in another file", r"(pub enum Weekday\b)", r'extern "C" { fn ovenquill_weekday(days: i32) -> i64; } \1', "extern"),
+    (RUST, "a second block in the same file", r'(extern "C" \{)', r'extern "C" {}\n\1', "extern"),
+    (HEADER, "packing", r"(typedef struct ovenquill_date\b)", r"#pragma pack(1)\n\1", "pragma"),
+    (HEADER, "packing by an operator", r"(typedef struct ovenquill_date\b)", r'_Pragma("pack(1)")\n\1', "_Pragma"),
+    (HEADER, "a call that is left out", r"(int64_t ovenquill_is_leap\([^)]*\);)", r"#if 0\n\1\n#endif", "#if 0"),
+    (HEADER, "a call for C++ alone", r"(int64_t ovenquill_is_leap\([^)]*\);)", r"#ifdef __cplusplus\n\1\n#endif", "#ifdef"),
+    (HEADER, "a type by another name", r"(typedef struct ovenquill_date\b)", r"#define int64_t int32_t\n\1", "#define int64_t"),
     (HEADER, "something that is no call", r"(int64_t ovenquill_weekday\()", r"extern int state; \1", "cannot be read"),
 ]
 

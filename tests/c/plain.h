@@ -19,19 +19,20 @@
 
 enum paper_weekday { SUNDAY, MONDAY, TUESDAY, WEDNESDAY, THURSDAY, FRIDAY, SATURDAY };
 
-/* The weekdays of day 0 and of the six behind it. */
+/* The weekdays of day 0 and of the six after it. */
 static const int64_t paper_week[7] = {THURSDAY, FRIDAY, SATURDAY, SUNDAY, MONDAY, TUESDAY, WEDNESDAY};
 
 #define PAPER_FIRST_INSTANT (-62167219200000LL)
 #define PAPER_LAST_INSTANT 253402300799999LL
-#define PAPER_DAY 86400000LL
-#define PAPER_SECOND 1000
+#define PAPER_SECOND 1000LL
+#define PAPER_DAY (86400 * PAPER_SECOND)
+#define PAPER_INSTANT_LABEL "%04d-%02d-%02dT%02d:%02d:%02d.%03dZ"
 #define PAPER_INSTANT_LABEL_BYTES 24
 #define PAPER_LAST_POSITION 359999999999LL
 #define PAPER_POSITION_LABEL_MIN_BYTES 12
 #define PAPER_POSITION_LABEL_MAX_BYTES 15
 
-/* Constants on trial: (a*n + b) / d by (m*n + c) >> k, within t. */
+/* Constants to check: (a*n + b) / d by (m*n + c) >> k, within t. */
 struct constants {
     int64_t a, b, d, m, c, k, t;
 };

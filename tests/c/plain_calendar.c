@@ -12,7 +12,7 @@ int64_t plain_month_length(int64_t year, int64_t month)
     return month == 2 && leap(year) ? 29 : lengths[month - 1];
 }
 
-/* The count of the first day of a year, from the first year to the one behind the last, counted year by year. */
+/* The count of the first day of a year, from the first year to the one after the last, counted year by year. */
 static int64_t year_start(int64_t year)
 {
     static int64_t starts[PAPER_LAST_YEAR - PAPER_FIRST_YEAR + 2];

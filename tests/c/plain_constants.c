@@ -1,4 +1,4 @@
-/* Constants on trial: document 01, "Constants on trial". */
+/* Constants that stand for a division: document 01, "Constants on trial". */
 #include "plain.h"
 
 static int allowed(struct constants q)

@@ -75,16 +75,17 @@ int64_t plain_write_instant(int64_t instant, uint8_t *out, size_t length)
     char label[80];
     if (plain_split_instant(instant, f) != 0)
         return -4;
-    snprintf(label, sizeof label, "%04d-%02d-%02dT%02d:%02d:%02d.%03dZ", (int)f[0], (int)f[1], (int)f[2], (int)f[3], (int)f[4],
-             (int)f[5], (int)f[6]);
+    snprintf(label, sizeof label, PAPER_INSTANT_LABEL, (int)f[0], (int)f[1], (int)f[2], (int)f[3], (int)f[4], (int)f[5],
+             (int)f[6]);
     return put(label, out, length);
 }
 
 int64_t plain_read_instant(const uint8_t *label, size_t length, int64_t *instant)
 {
-    static const char shape[] = "0000-00-00T00:00:00.000Z"; /* 0 for a digit; a mark ends a field */
+    char shape[80]; /* 0 for a digit; a mark ends a field */
     int64_t fields[8] = {0, 0, 0, 0, 0, 0, 0, 0};
     size_t i, field = 0;
+    snprintf(shape, sizeof shape, PAPER_INSTANT_LABEL, 0, 0, 0, 0, 0, 0, 0);
     if (length != strlen(shape))
         return -8;
     for (i = 0; i < length; i++) {

@@ -19,7 +19,7 @@ struct day {
 /* Document 01: a Saturday. */
 static const struct day first_day = {OVENQUILL_FIRST_COUNT, 1, 2, {OVENQUILL_FIRST_YEAR, 1, 1}};
 
-/* The day behind a day. */
+/* The day after a day. */
 static struct day next(struct day d)
 {
     d.count++;
@@ -134,7 +134,7 @@ int main(int argc, char **argv)
             check_date(d);
             check_instants(d);
         }
-    same("year behind the last day", d.count, d.date.year, OVENQUILL_LAST_YEAR + 1);
+    same("year after the last day", d.count, d.date.year, OVENQUILL_LAST_YEAR + 1);
     check_index(step);
     return finish("days");
 }

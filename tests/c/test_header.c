@@ -12,6 +12,13 @@ static void check_ranges(void)
 {
     SAME(OVENQUILL_FIRST_YEAR, PAPER_FIRST_YEAR);
     SAME(OVENQUILL_LAST_YEAR, PAPER_LAST_YEAR);
+    SAME(OVENQUILL_FIRST_MONTH, 1);
+    SAME(OVENQUILL_LAST_MONTH, 12);
+    SAME(OVENQUILL_LAST_HOUR, 23);
+    SAME(OVENQUILL_LAST_MINUTE, 59);
+    SAME(OVENQUILL_LAST_SECOND, 59);
+    SAME(OVENQUILL_LAST_MILLISECOND, PAPER_SECOND - 1);
+    SAME(sizeof OVENQUILL_LAST_YEAR, sizeof(int64_t));
     SAME(OVENQUILL_FIRST_COUNT, PAPER_FIRST_COUNT);
     SAME(OVENQUILL_LAST_COUNT, PAPER_LAST_COUNT);
     SAME(OVENQUILL_INSTANTS_PER_DAY, PAPER_DAY);
@@ -57,36 +64,21 @@ static void check_weekdays(void)
     SAME(OVENQUILL_SATURDAY, SATURDAY);
 }
 
-/* Each refusal by document 01's number, and words of its cause there that no other one's text has. */
+/* Each refusal by document 01's number; tests/test_readme.py holds their words to README's. */
 static void check_refusals(void)
 {
-    static const struct {
-        int64_t number, macro;
-        const char *words;
-    } refusals[] = {
-        {1, OVENQUILL_YEAR_OUT_OF_RANGE, "year"},
-        {2, OVENQUILL_MONTH_OUT_OF_RANGE, "month outside 1"},
-        {3, OVENQUILL_DAY_OUT_OF_RANGE, "day that its month"},
-        {4, OVENQUILL_OUT_OF_RANGE, "day count, instant or shifted date"},
-        {5, OVENQUILL_TIME_OUT_OF_RANGE, "hour, minute, second or millisecond"},
-        {6, OVENQUILL_POSITION_OUT_OF_RANGE, "position"},
-        {7, OVENQUILL_BUFFER_TOO_SHORT, "buffer shorter than the label"},
-        {8, OVENQUILL_MALFORMED_LABEL, "instant label"},
-        {9, OVENQUILL_CONSTANT_OUT_OF_LIMITS, "limits"},
-        {10, OVENQUILL_DIFFERENCE_BELOW_BOUND, "a difference stands below"},
-        {11, OVENQUILL_NO_DIFFERENCE_UP_TO_BOUND, "no difference at or below"},
-        {12, OVENQUILL_UNEQUAL_LENGTHS, "unequal length"},
+    static const int64_t refusals[] = {
+        OVENQUILL_YEAR_OUT_OF_RANGE,      OVENQUILL_MONTH_OUT_OF_RANGE,        OVENQUILL_DAY_OUT_OF_RANGE,
+        OVENQUILL_OUT_OF_RANGE,           OVENQUILL_TIME_OUT_OF_RANGE,         OVENQUILL_POSITION_OUT_OF_RANGE,
+        OVENQUILL_BUFFER_TOO_SHORT,       OVENQUILL_MALFORMED_LABEL,           OVENQUILL_CONSTANT_OUT_OF_LIMITS,
+        OVENQUILL_DIFFERENCE_BELOW_BOUND, OVENQUILL_NO_DIFFERENCE_UP_TO_BOUND, OVENQUILL_UNEQUAL_LENGTHS,
     };
     static const int64_t unknown[] = {-PAPER_LAST_REFUSAL - 1, INT32_MIN, INT64_MIN, INT64_MIN + 1};
     static const int64_t done[] = {0, 1, PAPER_LAST_REFUSAL, INT64_MAX};
-    size_t i, j;
+    size_t i;
     same("number of refusals", 0, (int64_t)COUNT(refusals), PAPER_LAST_REFUSAL);
-    for (i = 0; i < COUNT(refusals); i++) {
-        same("number of a refusal", refusals[i].number, refusals[i].macro, -refusals[i].number);
-        for (j = 0; j < COUNT(refusals); j++)
-            same("words of a refusal", refusals[i].number,
-                 strstr(ovenquill_refusal_text(refusals[i].macro), refusals[j].words) != NULL, i == j);
-    }
+    for (i = 0; i < COUNT(refusals); i++)
+        same("number of a refusal", (int64_t)i + 1, refusals[i], -(int64_t)i - 1);
     for (i = 0; i < COUNT(unknown); i++)
         same("words of no refusal", unknown[i], strcmp(ovenquill_refusal_text(unknown[i]), "unknown refusal"), 0);
     for (i = 0; i < COUNT(done); i++)

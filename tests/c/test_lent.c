@@ -1,6 +1,6 @@
 /*
  * Every call, with what it is lent in heap blocks of exactly that size. Answers, buffers, lists and places are held to plain.h,
- * whole: what a refused call was lent and what stands behind a label must be as it was. Compiled as C and as C++.
+ * whole: what a refused call was lent and what stands after a label must be as it was. Compiled as C and as C++.
  */
 #include <string.h>
 
@@ -9,8 +9,7 @@
 #include "plain.h"
 
 #define LABEL OVENQUILL_INSTANT_LABEL_BYTES
-#define RIGHT_LABEL "2023-05-10T14:30:00.000Z"
-#define RIGHT_INSTANT INT64_C(1683729000000)
+#define RIGHT_INSTANT (1683729000 * PAPER_SECOND)
 
 /* Each call at one input */
 
@@ -129,7 +128,7 @@ static void check_edges(void)
             try_date(2000, 2, e, edges[j]);
         }
     }
-    /* each field at the edges and at every number around its range, with the others right and with one of them wrong */
+    /* each field at the edges and at the numbers around its range's ends, with the others right and with one of them wrong */
     for (i = 0; i < 7; i++) {
         int64_t fields[7];
         memcpy(fields, leap_day_end, sizeof fields);
@@ -138,7 +137,7 @@ static void check_edges(void)
             fields[i] = edges[j];
             try_fields(fields);
         }
-        for (fields[i] = -2; fields[i] <= PAPER_SECOND + 1; fields[i]++) {
+        for (fields[i] = -2; fields[i] <= PAPER_SECOND + 1; fields[i] += fields[i] == 70 ? PAPER_SECOND - 140 : 1) {
             int64_t worse[7];
             try_fields(fields);
             memcpy(worse, fields, sizeof worse);
@@ -167,41 +166,57 @@ static void check_random(int rounds)
     }
 }
 
-/* Buffers of 0 to 40 bytes. */
+/* The edges and random positions, with buffers of a length. */
+static void try_writers_with(size_t length)
+{
+    size_t i;
+    for (i = 0; i < COUNT(edges); i++)
+        try_writers(edges[i], length);
+    for (i = 0; i < 12; i++)
+        try_writers(random_within(0, OVENQUILL_LAST_POSITION >> i), length);
+}
+
+/* Every length up to SHORT bytes, and long ones: powers of two and, as far above one, the length of a label. */
+#define SHORT 40
+#define LONGEST (65536 + LABEL)
+static const size_t long_lengths[] = {SHORT + 1, 64, 255, 256, 256 + LABEL, 4096, 65536, LONGEST};
+
 static void check_writers(void)
 {
     size_t i, length;
-    for (length = 0; length <= 40; length++) {
-        for (i = 0; i < COUNT(edges); i++)
-            try_writers(edges[i], length);
-        for (i = 0; i < 12; i++)
-            try_writers(random_within(0, OVENQUILL_LAST_POSITION >> i), length);
-    }
+    for (length = 0; length <= SHORT; length++)
+        try_writers_with(length);
+    for (i = 0; i < COUNT(long_lengths); i++)
+        try_writers_with(long_lengths[i]);
 }
 
 /* A label of fields that need not be right. */
 static void try_reading(int year, int month, int day, int hour, int minute, int second)
 {
     char label[80];
-    snprintf(label, sizeof label, "%04d-%02d-%02dT%02d:%02d:%02d.%03dZ", year, month, day, hour, minute, second, year % 1000);
+    snprintf(label, sizeof label, PAPER_INSTANT_LABEL, year, month, day, hour, minute, second, 10 * day + second % 10);
     try_reader(label, strlen(label));
 }
 
 static void check_reader(void)
 {
-    static const char twice[] = RIGHT_LABEL RIGHT_LABEL;
-    uint8_t label[40];
+    static uint8_t labels[LONGEST + LABEL];
+    uint8_t label[SHORT];
     size_t i, n, byte;
     int year, k;
-    /* lengths of 0 to 40: a label cut off or followed by another, the end of one, and one byte over and over */
-    for (n = 0; n <= 40; n++) {
-        try_reader(twice, n);
-        try_reader(twice + sizeof twice - 1 - n, n);
+    for (i = 0; i + LABEL <= sizeof labels; i += LABEL)
+        plain_write_instant(RIGHT_INSTANT, labels + i, LABEL);
+    /* short lengths: a label cut off or followed by another, the end of one, and one byte over and over */
+    for (n = 0; n <= SHORT; n++) {
+        try_reader(labels, n);
+        try_reader(labels + 2 * LABEL - n, n);
         for (byte = 0; byte < 256; byte++) {
             memset(label, (int)byte, sizeof label);
             try_reader(label, n);
         }
     }
+    for (i = 0; i < COUNT(long_lengths); i++)
+        try_reader(labels, long_lengths[i]);
     for (i = 0; i < 1000; i++) {
         plain_write_instant(random_instant(), label, LABEL);
         try_reader(label, LABEL);
@@ -209,12 +224,12 @@ static void check_reader(void)
     /* every byte at every place */
     for (i = 0; i < LABEL; i++)
         for (byte = 0; byte < 256; byte++) {
-            memcpy(label, twice, LABEL);
+            memcpy(label, labels, LABEL);
             label[i] = (uint8_t)byte;
             try_reader(label, LABEL);
         }
-    /* every number in every field of two digits, alone and beside wrong ones, in years of four digits */
-    for (year = 0; year <= 9999; year += 101)
+    /* every number in every field of two digits, alone and beside wrong ones, in years of all the range */
+    for (year = PAPER_FIRST_YEAR; year <= PAPER_LAST_YEAR; year += 101)
         for (k = 0; k < 100; k++) {
             try_reading(year, k, 29, k % 25, 59, 59);
             try_reading(year, 2, k, 23, k % 61, 59);
@@ -223,17 +238,26 @@ static void check_reader(void)
         }
 }
 
-/* Lists of 0 to 70, equal and unequal, with a bad instant at every place and with none. */
-static void check_index(void)
+static const int64_t bad[] = {OVENQUILL_FIRST_INSTANT - 1, OVENQUILL_LAST_INSTANT + 1, INT64_MIN, INT64_MAX};
+
+/* Fills a list with instants that are accepted, some of them edges. */
+static void fill(int64_t *instants, size_t n)
 {
-    static const int64_t bad[] = {OVENQUILL_FIRST_INSTANT - 1, OVENQUILL_LAST_INSTANT + 1, INT64_MIN, INT64_MAX};
     static const int64_t good[] = {OVENQUILL_FIRST_INSTANT, -1, 0, OVENQUILL_INSTANTS_PER_DAY - 1, OVENQUILL_LAST_INSTANT};
-    int64_t instants[70];
+    size_t i;
+    for (i = 0; i < n; i++)
+        instants[i] = i % 8 == 0 ? good[i / 8 % COUNT(good)] : random_instant();
+}
+
+/* Lists of up to SHORT_LIST, equal and unequal, with a bad instant at every index and with none. */
+#define SHORT_LIST 70
+static void check_short_lists(void)
+{
+    int64_t instants[SHORT_LIST];
     size_t n, i;
-    for (n = 0; n <= COUNT(instants); n++) {
-        for (i = 0; i < n; i++)
-            instants[i] = i % 8 == 0 ? good[i / 8 % COUNT(good)] : random_instant();
-        for (i = 0; i <= COUNT(instants); i++)
+    for (n = 0; n <= SHORT_LIST; n++) {
+        fill(instants, n);
+        for (i = 0; i <= SHORT_LIST; i++)
             try_index(instants, n, i);
         for (i = n; i-- > 0;) {
             const int64_t kept = instants[i];
@@ -244,6 +268,31 @@ static void check_index(void)
             if (n % 2 == 0) /* in the other lists the later ones stay bad: the first is named */
                 instants[i] = kept;
         }
+    }
+}
+
+/* Long lists, equal and unequal by a little or by a power of two, with a bad instant at some indexes and with none. */
+static void check_long_lists(void)
+{
+    static const size_t lengths[] = {255, 256, 256 + SHORT_LIST, 1000, 65536 + 1};
+    static const size_t apart[] = {0, 1, 256, 65536};
+    static int64_t instants[65536 + 1];
+    size_t n, i;
+    fill(instants, COUNT(instants));
+    for (n = 0; n < COUNT(lengths); n++) {
+        const size_t length = lengths[n], indexes[] = {length - 1, length / 2, 256, 255, 0};
+        for (i = 0; i < COUNT(apart); i++)
+            if (apart[i] <= length) {
+                try_index(instants, length, length - apart[i]);
+                try_index(instants, length - apart[i], length);
+            }
+        for (i = 0; i < COUNT(indexes); i++)
+            if (indexes[i] < length) {
+                const int64_t kept = instants[indexes[i]];
+                instants[indexes[i]] = bad[i % COUNT(bad)];
+                try_index(instants, length, length);
+                instants[indexes[i]] = kept;
+            }
     }
 }
 
@@ -321,36 +370,79 @@ static void check_null(void)
 }
 
 /*
- * Places that hold nothing yet, as C's callers hand them in: valgrind sees whether a call's answer depends on them, and whether
- * all of them is written.
+ * Blocks that hold nothing yet, as C's callers hand them in: valgrind sees whether a call's answer depends on one, and whether
+ * the call writes the bytes at its front that it must. `lent` is a block of `count` elements of `type`, `right` the plain call's.
  */
-static void check_unset(void)
+#define SAME_WITH_UNSET(type, plain_type, count, bytes_written, call, plain_call)  \
+    do {                                                                           \
+        type *lent = (type *)malloc((count) * sizeof *lent);                       \
+        plain_type *right = (plain_type *)lend((count) * sizeof *lent);            \
+        same("unset " #call, 0, call, plain_call);                                 \
+        hold("unset " #call, 0, lent, right, bytes_written);                       \
+    } while (0)
+#define DONE_WITH_UNSET(type, call, plain_call) SAME_WITH_UNSET(type, int64_t, 1, sizeof(type), call, plain_call)
+#define REFUSED_WITH_UNSET(type, call, plain_call) SAME_WITH_UNSET(type, int64_t, 1, 0, call, plain_call)
+
+static void check_unset_places(void)
 {
-    static const int64_t instant = RIGHT_INSTANT;
-    static const char right[] = RIGHT_LABEL, start[] = "00:00:00.000";
-    uint8_t *label = (uint8_t *)malloc(LABEL), *position = (uint8_t *)malloc(strlen(start));
-    int64_t *number = (int64_t *)malloc(sizeof *number);
-    ovenquill_date *date = (ovenquill_date *)malloc(sizeof *date);
-    ovenquill_fields *fields = (ovenquill_fields *)malloc(sizeof *fields);
-    int32_t *days = (int32_t *)malloc(sizeof *days);
-    same("unset buffer", 0, ovenquill_write_instant(instant, label, LABEL), LABEL);
-    same("unset buffer", 0, memcmp(label, right, LABEL), 0);
-    same("unset buffer", 0, ovenquill_write_position(0, position, strlen(start)), (int64_t)strlen(start));
-    same("unset buffer", 0, memcmp(position, start, strlen(start)), 0);
-    same("unset date", 0, ovenquill_civil_from_days(0, date), 0);
-    same("unset date", 0, date->year + date->month + date->day, 1970 + 1 + 1);
-    same("unset fields", 0, ovenquill_split_instant(0, fields), 0);
-    same("unset fields", 0, fields->year + fields->hour + fields->minute + fields->second + fields->millisecond, 1970);
-    same("unset days and place", 0, ovenquill_index_days(&instant, 1, days, 1, number), 1);
-    same("unset days", 0, *days, 19487);
-    same("unset place", 0, ovenquill_check_bound(1, 0, 10, 26, 0, 8, 0, 69, number), 0);
-    same("unset place", 0, ovenquill_check_bound(1, 0, 10, 26, 0, 8, 0, 70, number), OVENQUILL_DIFFERENCE_BELOW_BOUND);
-    same("unset place", 0, *number, 69);
-    free(label);
-    free(position);
-    free(number);
-    free(date);
-    free(fields);
+    static const int64_t day[7] = {2023, 5, 10, 14, 30, 59, 1}, no_day[7] = {2023, 2, 29, 14, 30, 59, 1};
+    static const struct constants q = {1, 0, 10, 26, 0, 8, 0};
+    const int64_t late = OVENQUILL_LAST_INSTANT + 1;
+    uint8_t label[LABEL];
+    plain_write_instant(RIGHT_INSTANT, label, LABEL);
+    DONE_WITH_UNSET(int64_t, ovenquill_days_from_civil(2023, 5, 10, lent), plain_days_from_civil(2023, 5, 10, right));
+    REFUSED_WITH_UNSET(int64_t, ovenquill_days_from_civil(2023, 2, 29, lent), plain_days_from_civil(2023, 2, 29, right));
+    DONE_WITH_UNSET(ovenquill_date, ovenquill_civil_from_days(-1, lent), plain_civil_from_days(-1, right));
+    REFUSED_WITH_UNSET(ovenquill_date, ovenquill_civil_from_days(INT64_MAX, lent), plain_civil_from_days(INT64_MAX, right));
+    DONE_WITH_UNSET(ovenquill_date, ovenquill_add_days(2023, 5, 10, 30, lent), plain_add_days(2023, 5, 10, 30, right));
+    REFUSED_WITH_UNSET(ovenquill_date, ovenquill_add_days(2023, 2, 29, 30, lent), plain_add_days(2023, 2, 29, 30, right));
+    REFUSED_WITH_UNSET(ovenquill_date, ovenquill_add_days(2023, 2, 1, INT64_MAX, lent),
+                       plain_add_days(2023, 2, 1, INT64_MAX, right));
+    DONE_WITH_UNSET(int64_t, ovenquill_day_of_instant(-1, lent), plain_day_of_instant(-1, right));
+    REFUSED_WITH_UNSET(int64_t, ovenquill_day_of_instant(late, lent), plain_day_of_instant(late, right));
+    DONE_WITH_UNSET(ovenquill_fields, ovenquill_split_instant(-1, lent), plain_split_instant(-1, right));
+    REFUSED_WITH_UNSET(ovenquill_fields, ovenquill_split_instant(late, lent), plain_split_instant(late, right));
+    DONE_WITH_UNSET(int64_t, ovenquill_join_instant(day[0], day[1], day[2], day[3], day[4], day[5], day[6], lent),
+                    plain_join_instant(day, right));
+    REFUSED_WITH_UNSET(int64_t, ovenquill_join_instant(no_day[0], no_day[1], no_day[2], no_day[3], no_day[4], no_day[5],
+                                                       no_day[6], lent),
+                       plain_join_instant(no_day, right));
+    DONE_WITH_UNSET(int64_t, ovenquill_read_instant(label, LABEL, lent), plain_read_instant(label, LABEL, right));
+    REFUSED_WITH_UNSET(int64_t, ovenquill_read_instant(label, LABEL - 1, lent), plain_read_instant(label, LABEL - 1, right));
+    label[LABEL - 1] = '!';
+    REFUSED_WITH_UNSET(int64_t, ovenquill_read_instant(label, LABEL, lent), plain_read_instant(label, LABEL, right));
+    REFUSED_WITH_UNSET(int64_t, ovenquill_check_bound(q.a, q.b, q.d, q.m, q.c, q.k, q.t, 69, lent),
+                       plain_check_bound(q, 69, right));
+    REFUSED_WITH_UNSET(int64_t, ovenquill_check_bound(q.a, q.b, q.d, q.m, q.c, q.k, q.t, 68, lent),
+                       plain_check_bound(q, 68, right));
+    REFUSED_WITH_UNSET(int64_t, ovenquill_check_bound(q.a, q.b, q.d, q.m, q.c, q.k, q.t, -1, lent),
+                       plain_check_bound(q, -1, right));
+    DONE_WITH_UNSET(int64_t, ovenquill_check_bound(q.a, q.b, q.d, q.m, q.c, q.k, q.t, 70, lent),
+                    plain_check_bound(q, 70, right));
+}
+
+static void check_unset_buffers(void)
+{
+    const int64_t instants[] = {-1, 0, RIGHT_INSTANT}, with_a_bad_one[] = {-1, INT64_MAX, 0};
+    const size_t n = COUNT(instants), position_label = OVENQUILL_POSITION_LABEL_MIN_BYTES;
+    int64_t *place = (int64_t *)malloc(sizeof *place), ignored;
+    int32_t *days = (int32_t *)malloc(sizeof *days * COUNT(instants));
+    int32_t ignored_days[COUNT(instants)];
+    SAME_WITH_UNSET(uint8_t, uint8_t, 99, LABEL, ovenquill_write_instant(-1, lent, 99), plain_write_instant(-1, right, 99));
+    SAME_WITH_UNSET(uint8_t, uint8_t, 9, 0, ovenquill_write_instant(-1, lent, 9), plain_write_instant(-1, right, 9));
+    SAME_WITH_UNSET(uint8_t, uint8_t, 99, 0, ovenquill_write_instant(INT64_MAX, lent, 99),
+                    plain_write_instant(INT64_MAX, right, 99));
+    SAME_WITH_UNSET(uint8_t, uint8_t, 99, position_label, ovenquill_write_position(0, lent, 99),
+                    plain_write_position(0, right, 99));
+    SAME_WITH_UNSET(uint8_t, uint8_t, 9, 0, ovenquill_write_position(0, lent, 9), plain_write_position(0, right, 9));
+    SAME_WITH_UNSET(uint8_t, uint8_t, 99, 0, ovenquill_write_position(-1, lent, 99), plain_write_position(-1, right, 99));
+    SAME_WITH_UNSET(int32_t, int32_t, n, n * sizeof(int32_t), ovenquill_index_days(instants, n, lent, n, place),
+                    plain_index_days(instants, n, right, n, &ignored));
+    REFUSED_WITH_UNSET(int64_t, ovenquill_index_days(instants, n - 1, days, n, lent),
+                       plain_index_days(instants, n - 1, ignored_days, n, right));
+    DONE_WITH_UNSET(int64_t, ovenquill_index_days(with_a_bad_one, n, days, n, lent),
+                    plain_index_days(with_a_bad_one, n, ignored_days, n, right));
+    free(place);
     free(days);
 }
 
@@ -362,11 +454,13 @@ int main(int argc, char **argv)
     check_random(rounds);
     check_writers();
     check_reader();
-    check_index();
+    check_short_lists();
+    check_long_lists();
     check_limits();
     check_ends();
     check_constants(rounds / 4);
     check_null();
-    check_unset();
+    check_unset_places();
+    check_unset_buffers();
     return finish("lent blocks");
 }

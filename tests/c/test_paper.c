@@ -50,7 +50,7 @@ static void check_calendar(void)
     check_weekday(2023, 5, 12, OVENQUILL_FRIDAY);
     check_weekday(2023, 5, 13, OVENQUILL_SATURDAY);
     same("year 0 is leap", 0, ovenquill_is_leap(0), 1);
-    same("day behind the last", 2932897, ovenquill_civil_from_days(2932897, &date), OVENQUILL_OUT_OF_RANGE);
+    same("day after the last", 2932897, ovenquill_civil_from_days(2932897, &date), OVENQUILL_OUT_OF_RANGE);
     same("1900-02-29", 1900, ovenquill_days_from_civil(1900, 2, 29, &days), OVENQUILL_DAY_OUT_OF_RANGE);
     same("month 13 with day 99", 13, ovenquill_days_from_civil(2023, 13, 99, &days), OVENQUILL_MONTH_OUT_OF_RANGE);
 }
@@ -103,7 +103,7 @@ static void check_positions(void)
     check_position(359999999999, "99999:59:59.999");
     check_position(4287767296, "1191:02:47.296");
     same("position below 0", -1, ovenquill_write_position(-1, out, sizeof out), OVENQUILL_POSITION_OUT_OF_RANGE);
-    same("position behind the last", 360000000000, ovenquill_write_position(360000000000, out, sizeof out),
+    same("position after the last", 360000000000, ovenquill_write_position(360000000000, out, sizeof out),
          OVENQUILL_POSITION_OUT_OF_RANGE);
 }
 
