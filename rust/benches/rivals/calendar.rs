@@ -101,11 +101,11 @@ fn checked_month(year: i64, month: i64) -> Result<(u32, u32), i64> {
     }
 }
 
-/// The date, or refusal 1, 2 or 3.
+/// The date, or refusal 1, 2 or 3. Most days are in every month.
 #[inline(always)]
 pub fn checked_date(year: i64, month: i64, day: i64) -> Result<Parts, i64> {
     let (year, month) = checked_month(year, month)?;
-    if day < 1 || day > i64::from(month_length(year, month)) {
+    if day < 1 || day > 28 && day > i64::from(month_length(year, month)) {
         return Err(3);
     }
     Ok(Parts { year, month, day: day as u32 })
@@ -157,9 +157,13 @@ pub unsafe extern "C" fn last_day_of_month(year: i64, month: i64) -> i64 {
 
 #[inline(never)]
 pub unsafe extern "C" fn day_of_year(year: i64, month: i64, day: i64) -> i64 {
-    returned(checked_date(year, month, day).map(|date| {
-        let leap_day = u32::from(date.month > 2) & u32::from(leap(date.year));
-        (u32::from(DAYS_BEFORE[date.month as usize]) + leap_day + date.day).into()
+    returned(checked_month(year, month).and_then(|(year, month)| {
+        // The year is tested for the leap day anyway, so the month's length costs less than a branch around it.
+        if day < 1 || day > i64::from(month_length(year, month)) {
+            return Err(3);
+        }
+        let leap_day = u32::from(month > 2) & u32::from(leap(year));
+        Ok(i64::from(u32::from(DAYS_BEFORE[month as usize]) + leap_day) + day)
     }))
 }
 
