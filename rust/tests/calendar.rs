@@ -137,13 +137,10 @@ fn dates_as_text() {
 
 #[test]
 fn every_day_both_ways() {
-    let mut tried = 0;
     for days in FIRST_DAY..=LAST_DAY {
         try_count(days);
         try_date(plain::civil_from_days(days).value());
-        tried += 1;
     }
-    assert_eq!(tried, 3652425);
 }
 
 #[test]
