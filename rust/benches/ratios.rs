@@ -282,7 +282,7 @@ fn index_lines() {
     }
 }
 
-// Constants on trial
+// Constants that stand for a division
 
 /// The numbers of a call: constants, and the search end or claimed bound.
 type Set = [i64; 8];

@@ -188,7 +188,7 @@ fn the_reader() {
 }
 
 #[test]
-fn constants_on_trial() {
+fn searches_and_claims() {
     let mut random = Random::new(29);
     let mut seen = [0; 4];
     for _ in 0..300_000 {
