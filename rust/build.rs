@@ -1,6 +1,6 @@
 // Links the archive that `make` writes. OVENQUILL_LIB names another folder that holds it; a relative one is taken from this
-// package's folder, and an empty name is none. OVENQUILL_CHRONO names the folder of libovenquill_chrono.a, which benches/chrono.cpp says how to make:
-// the benchmarks then have its lines too.
+// package's folder, and an empty name is none. OVENQUILL_CHRONO names the folder of libovenquill_chrono.a, which
+// benches/chrono.cpp says how to make: the benchmarks then have its lines too.
 use std::path::{absolute, PathBuf};
 use std::{env, process};
 
