@@ -1,20 +1,30 @@
-// Links the archive that `make` writes. OVENQUILL_LIB names another folder that holds it. OVENQUILL_CHRONO names the
-// folder of libovenquill_chrono.a, which benches/chrono.cpp says how to make: the benchmarks then have its lines too.
-use std::env;
-use std::path::PathBuf;
+// Links the archive that `make` writes. OVENQUILL_LIB names another folder that holds it; a relative one is taken from this
+// package's folder, and an empty name is none. OVENQUILL_CHRONO names the folder of libovenquill_chrono.a, which
+// benches/chrono.cpp says how to make: the benchmarks then have its lines too.
+use std::path::{absolute, PathBuf};
+use std::{env, process};
+
+/// The folder that an environment variable names, if it names one, as an absolute path.
+fn named(variable: &str) -> Option<PathBuf> {
+    println!("cargo:rerun-if-env-changed={variable}");
+    let folder = env::var_os(variable).filter(|folder| !folder.is_empty())?;
+    Some(absolute(&folder).unwrap_or_else(|_| folder.into()))
+}
 
 fn main() {
-    println!("cargo:rerun-if-env-changed=OVENQUILL_LIB");
-    let folder = env::var_os("OVENQUILL_LIB").map(PathBuf::from).unwrap_or_else(|| {
-        PathBuf::from(env::var_os("CARGO_MANIFEST_DIR").expect("cargo sets it")).join("../build/lib")
-    });
+    let built = || PathBuf::from(env::var_os("CARGO_MANIFEST_DIR").expect("cargo sets it")).with_file_name("build/lib");
+    let folder = named("OVENQUILL_LIB").unwrap_or_else(built);
+    let archive = folder.join("libovenquill.a");
+    println!("cargo:rerun-if-changed={}", archive.display());
+    if !archive.is_file() {
+        eprintln!("no libovenquill.a in {}: run `make`, or set OVENQUILL_LIB", folder.display());
+        process::exit(1);
+    }
     println!("cargo:rustc-link-search=native={}", folder.display());
     println!("cargo:rustc-link-lib=static=ovenquill");
-    println!("cargo:rerun-if-changed={}", folder.join("libovenquill.a").display());
 
     println!("cargo:rustc-check-cfg=cfg(chrono)");
-    println!("cargo:rerun-if-env-changed=OVENQUILL_CHRONO");
-    if let Some(folder) = env::var_os("OVENQUILL_CHRONO").map(PathBuf::from) {
+    if let Some(folder) = named("OVENQUILL_CHRONO") {
         let archive = folder.join("libovenquill_chrono.a");
         println!("cargo:rustc-cfg=chrono");
         println!("cargo:rustc-link-arg-benches={}", archive.display());

@@ -15,6 +15,7 @@ use ovenquill::{
     raw, Constants, Date, Fields, CLAIM_BOUNDS, DAYS, INSTANTS, INSTANT_LABEL_BYTES, POSITIONS, SEARCH_ENDS, YEARS,
 };
 use random::Random;
+use rivals::calendar::{BY_DIVISIONS, BY_SHIFTS};
 #[cfg(chrono)]
 use rivals::chrono;
 use rivals::{calendar, constants, instants, labels};
@@ -23,7 +24,11 @@ use rivals::{calendar, constants, instants, labels};
 const INPUTS: usize = 131072;
 
 fn main() {
-    println!("{ROUNDS} rounds, ours and the rival in turn; ratio = median time of ours / median time of the rival");
+    println!("{ROUNDS} rounds, ours and the rival in turn on each part of the inputs.");
+    println!("Ratio: ours / the rival's, each the sum over the parts of a part's median over the rounds.");
+    println!("Rounds: the ratios of single rounds, in which a part counts at most twice its median.");
+    println!("Best: the sum over the parts of a part's least time, for one call.");
+    println!("The walk of the residues takes time linear in d, ours does not: its lines compare two algorithms.");
     println!();
     println!("| call | rival | ratio | rounds, least to largest | rounds, middle half | best of ours | of the rival |");
     println!("|---|---|---|---|---|---|---|");
@@ -91,7 +96,8 @@ fn calendar_lines() {
             &Inputs::of(inputs),
             raw::ovenquill_civil_from_days,
             &[
-                ("algorithm 3 in Rust", calendar::civil_from_days),
+                ("algorithm 3 in Rust", calendar::civil_from_days::<BY_DIVISIONS>),
+                ("algorithm 5 in Rust, multiply and shift", calendar::civil_from_days::<BY_SHIFTS>),
                 #[cfg(chrono)]
                 (CHRONO, chrono::chrono_civil_from_days),
             ],
@@ -103,7 +109,8 @@ fn calendar_lines() {
             &Inputs::of(inputs),
             raw::ovenquill_days_from_civil,
             &[
-                ("algorithm 4 in Rust", calendar::days_from_civil),
+                ("algorithm 4 in Rust", calendar::days_from_civil::<BY_DIVISIONS>),
+                ("algorithm 6 in Rust, multiply and shift", calendar::days_from_civil::<BY_SHIFTS>),
                 #[cfg(chrono)]
                 (CHRONO, chrono::chrono_days_from_civil),
             ],
@@ -114,7 +121,7 @@ fn calendar_lines() {
         &Inputs::of(&shifts),
         raw::ovenquill_add_days,
         &[
-            ("algorithms 4 and 3 in Rust", calendar::add_days),
+            ("algorithms 6 and 5 in Rust", calendar::add_days),
             #[cfg(chrono)]
             (CHRONO, chrono::chrono_add_days),
         ],
@@ -178,7 +185,7 @@ fn instant_lines() {
         &Inputs::of(&list),
         raw::ovenquill_day_of_instant,
         &[
-            ("`div_euclid` in Rust", instants::day_of_instant),
+            ("unsigned quotient in Rust", instants::day_of_instant),
             #[cfg(chrono)]
             (CHRONO, chrono::chrono_day_of_instant),
         ],
@@ -270,12 +277,12 @@ fn index_lines() {
             &format!("index of {length}, for each instant"),
             &Inputs { list: &list, parts, units: length },
             raw::ovenquill_index_days,
-            &[("`div_euclid` loop", instants::index_days)],
+            &[("loops without an early exit", instants::index_days)],
         );
     }
 }
 
-// Constants on trial
+// Constants that stand for a division
 
 /// The numbers of a call: constants, and the search end or claimed bound.
 type Set = [i64; 8];

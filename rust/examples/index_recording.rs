@@ -1,11 +1,16 @@
 //! Indexes a recording: the label, the day, the date and the weekday of the instant that each of its parts starts at.
 //!
 //!     index_recording              a recording that is built in, and the same with a bad instant in it
-//!     index_recording - < FILE     instants in milliseconds from 1970-01-01 00:00, one to a line
+//!     index_recording - < FILE     instants in milliseconds from 1970-01-01 00:00, one to a line; empty lines are passed over
+//!
+//! The exit status is 1, with a message on standard error, where a line is no instant, where the index is refused and where
+//! not everything could be read or written; it is 2 with any other arguments.
 
 use ovenquill::{civil_from_days, index_days, instant_label, weekday, INSTANTS};
 use std::error::Error;
+use std::ffi::OsString;
 use std::io::{self, BufRead, Write};
+use std::process::ExitCode;
 
 /// A camera that was first switched on in 1969, and then ran over a new year and a leap day.
 const RECORDING: [i64; 6] = [-1, 1683729000000, 1704067199999, 1704067200000, 1704153599999, 1709208000000];
@@ -13,43 +18,87 @@ const RECORDING: [i64; 6] = [-1, 1683729000000, 1704067199999, 1704067200000, 17
 /// What a day is before the index writes it.
 const NO_DAY: i32 = i32::MIN;
 
-/// Writes a line for each part, or why the index was refused.
-fn show(instants: &[i64], out: &mut impl Write) -> Result<(), Box<dyn Error>> {
-    let mut days = vec![NO_DAY; instants.len()];
-    match index_days(instants, &mut days) {
-        Ok(written) => {
-            writeln!(out, "{written} parts")?;
-            for (&instant, &day) in instants.iter().zip(&days) {
-                let day = i64::from(day);
-                let (label, date, weekday) = (instant_label(instant)?, civil_from_days(day)?, weekday(day)?);
-                writeln!(out, "{label}  day {day:>5}  {date}  {weekday}")?;
-            }
-        }
-        Err(error) => {
-            writeln!(out, "refused ({}): {error}", error.refusal.number())?;
-            if let Some(instant) = error.place.and_then(|place| instants.get(place)) {
-                let written = days.iter().filter(|&&day| day != NO_DAY).count();
-                writeln!(out, "the bad instant is {instant}; {written} days were written")?;
-            }
+/// Writes a line for each part.
+fn show(instants: &[i64], days: &[i32], out: &mut impl Write) -> Result<(), Box<dyn Error>> {
+    writeln!(out, "{} parts", days.len())?;
+    for (&instant, &day) in instants.iter().zip(days) {
+        let day = i64::from(day);
+        let (label, date, weekday) = (instant_label(instant)?, civil_from_days(day)?, weekday(day)?);
+        writeln!(out, "{label}  day {day:>5}  {date}  {weekday}")?;
+    }
+    Ok(())
+}
+
+/// Shows the recording that is built in, and what the index answers where one of its instants is bad.
+fn show_built_in(out: &mut impl Write) -> Result<(), Box<dyn Error>> {
+    let mut days = [NO_DAY; RECORDING.len()];
+    index_days(&RECORDING, &mut days)?;
+    show(&RECORDING, &days, out)?;
+
+    let mut with_a_bad_one = RECORDING;
+    with_a_bad_one[3] = INSTANTS.end() + 1;
+    let mut days = [NO_DAY; RECORDING.len()];
+    if let Err(error) = index_days(&with_a_bad_one, &mut days) {
+        writeln!(out, "\nrefused ({}): {error}", error.refusal.number())?;
+        if let Some(instant) = error.place.and_then(|place| with_a_bad_one.get(place)) {
+            let written = days.iter().filter(|&&day| day != NO_DAY).count();
+            writeln!(out, "the bad instant is {instant}; {written} days were written")?;
         }
     }
     Ok(())
 }
 
-fn main() -> Result<(), Box<dyn Error>> {
-    let mut out = io::stdout().lock();
-    if std::env::args().nth(1).as_deref() == Some("-") {
-        let mut instants = Vec::new();
-        for line in io::stdin().lock().lines() {
-            let line = line?;
-            instants.push(line.trim().parse().map_err(|_| format!("no instant: {line:?}"))?);
+/// Shows the recording whose instants are the lines of the input.
+fn show_lines(input: impl BufRead, out: &mut impl Write) -> Result<(), Box<dyn Error>> {
+    let (mut instants, mut numbers) = (Vec::new(), Vec::new());
+    for (number, line) in (1..).zip(input.lines()) {
+        let line = line.map_err(|error| format!("line {number}: {error}"))?;
+        let text = line.trim();
+        if text.is_empty() {
+            continue;
         }
-        return show(&instants, &mut out);
+        let instant: i64 = text.parse().map_err(|_| {
+            let text = text.escape_debug();
+            format!("line {number}: \"{text}\" is no whole number of milliseconds that fits 64 bits")
+        })?;
+        instants.push(instant);
+        numbers.push(number);
     }
-    show(&RECORDING, &mut out)?;
+    let mut days = vec![NO_DAY; instants.len()];
+    index_days(&instants, &mut days).map_err(|error| match error.place {
+        Some(place) => format!(
+            "line {}: {} refused ({}): {}",
+            numbers[place],
+            instants[place],
+            error.refusal.number(),
+            error.refusal
+        ),
+        None => format!("refused ({}): {error}", error.refusal.number()),
+    })?;
+    show(&instants, &days, out)
+}
 
-    let mut with_a_bad_one = RECORDING;
-    with_a_bad_one[3] = INSTANTS.end() + 1;
-    writeln!(out)?;
-    show(&with_a_bad_one, &mut out)
+/// Does what the arguments ask for, and answers the exit status.
+pub fn run(arguments: &[OsString], input: impl BufRead, out: &mut impl Write, messages: &mut impl Write) -> u8 {
+    let shown = match arguments {
+        [] => show_built_in(out),
+        [dash] if dash == "-" => show_lines(input, out),
+        _ => {
+            // A message that cannot be written is not worth another.
+            let _ = writeln!(messages, "usage: index_recording, or index_recording - < FILE");
+            return 2;
+        }
+    };
+    match shown.and_then(|()| Ok(out.flush()?)) {
+        Ok(()) => 0,
+        Err(error) => {
+            let _ = writeln!(messages, "index_recording: {error}");
+            1
+        }
+    }
+}
+
+fn main() -> ExitCode {
+    let arguments: Vec<OsString> = std::env::args_os().skip(1).collect();
+    run(&arguments, io::stdin().lock(), &mut io::stdout().lock(), &mut io::stderr().lock()).into()
 }

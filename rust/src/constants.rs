@@ -1,4 +1,4 @@
-//! Constants on trial: the least input where a multiply-and-shift quotient goes wrong.
+//! Constants that stand for a division: the least input where a multiply-and-shift quotient goes wrong.
 
 use crate::raw;
 use crate::refusal::{returned, Refusal};

@@ -50,7 +50,7 @@ pub struct Fields {
     pub minute: i64,
     /// The second, from 0 to 59.
     pub second: i64,
-    /// The millisecond, from 0 to 999.
+    /// The millisecond of the second, from 0.
     pub millisecond: i64,
 }
 

@@ -7,10 +7,14 @@ use core::ops::RangeInclusive;
 use core::str::{self, FromStr};
 
 /// The form of an instant label.
-pub(crate) const INSTANT_LABEL_FORM: &str = "YYYY-MM-DDTHH:MM:SS.mmmZ";
+macro_rules! instant_label_form {
+    () => {
+        "YYYY-MM-DDTHH:MM:SS.mmmZ"
+    };
+}
 
-/// The bytes of an instant label.
-pub const INSTANT_LABEL_BYTES: usize = INSTANT_LABEL_FORM.len();
+#[doc = concat!("The bytes of an instant label, `", instant_label_form!(), "`.")]
+pub const INSTANT_LABEL_BYTES: usize = instant_label_form!().len();
 
 /// The first and the last position, in milliseconds.
 ///
@@ -25,19 +29,19 @@ pub const POSITIONS: RangeInclusive<i64> = 0..=359999999999;
 /// The bytes of the longest position label.
 pub const POSITION_LABEL_BYTES: usize = 15;
 
-/// Writes the label of an instant, `YYYY-MM-DDTHH:MM:SS.mmmZ`, to the front of a buffer and answers its length. The bytes
-/// behind it are unchanged.
+#[doc = concat!("Writes the label of an instant, `", instant_label_form!(), "`, to the front of a buffer and answers its")]
+/// length. The bytes behind it are unchanged.
 ///
 /// Refused are an instant outside [`INSTANTS`](crate::INSTANTS) ([`Refusal::OutOfRange`]) and then a buffer of fewer than
 /// [`INSTANT_LABEL_BYTES`] ([`Refusal::BufferTooShort`]).
 ///
 /// ```
-/// use ovenquill::{write_instant, Refusal};
+/// use ovenquill::{write_instant, Refusal, INSTANT_LABEL_BYTES};
 ///
-/// let mut buffer = [b'.'; 26];
-/// assert_eq!(write_instant(-1, &mut buffer), Ok(24));
+/// let mut buffer = [b'.'; INSTANT_LABEL_BYTES + 2];
+/// assert_eq!(write_instant(-1, &mut buffer), Ok(INSTANT_LABEL_BYTES));
 /// assert_eq!(&buffer, b"1969-12-31T23:59:59.999Z..");
-/// assert_eq!(write_instant(0, &mut buffer[..23]), Err(Refusal::BufferTooShort));
+/// assert_eq!(write_instant(0, &mut buffer[..INSTANT_LABEL_BYTES - 1]), Err(Refusal::BufferTooShort));
 /// assert_eq!(&buffer, b"1969-12-31T23:59:59.999Z..");
 /// ```
 #[inline]

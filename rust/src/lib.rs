@@ -11,7 +11,7 @@
 //! | instants | [`Fields`], [`IndexError`] | [`day_of_instant`], [`split_instant`], [`join_instant`], [`index_days`] |
 //! | labels of instants | [`InstantLabel`] | [`instant_label`], [`write_instant`], [`read_instant`] |
 //! | labels of positions | [`PositionLabel`] | [`position_label`], [`write_position`] |
-//! | constants on trial | [`Constants`], [`ClaimError`] | [`first_difference`], [`check_bound`] |
+//! | constants that stand for a division | [`Constants`], [`ClaimError`] | [`first_difference`], [`check_bound`] |
 //!
 //! Every call takes any numbers and any slices. What it does not take it answers with a [`Refusal`], which has a number and
 //! words; a refused call changes nothing that was lent to it. A count of days is counted from 1970-01-01, an instant in

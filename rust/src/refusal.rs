@@ -2,7 +2,7 @@
 
 use crate::calendar::{MONTHS, YEARS};
 use crate::instant::{DAY, HOUR, MINUTE, SECOND};
-use crate::labels::{INSTANT_LABEL_BYTES, INSTANT_LABEL_FORM, POSITIONS};
+use crate::labels::{INSTANT_LABEL_BYTES, POSITIONS};
 use core::error::Error;
 use core::fmt;
 
@@ -20,7 +20,7 @@ macro_rules! refusals {
         /// let refusal = days_from_civil(Date::new(2023, 13, 99)).unwrap_err();
         /// assert_eq!(refusal, Refusal::MonthOutOfRange);
         /// assert_eq!(refusal.number(), 2);
-        /// assert_eq!(refusal.to_string(), "month outside 1 to 12");
+        /// assert_eq!(refusal.to_string(), "month outside 1..12");
         /// ```
         #[derive(Clone, Copy, Debug, PartialEq, Eq, Hash)]
         #[non_exhaustive]
@@ -62,7 +62,7 @@ macro_rules! refusals {
             /// ```
             /// use ovenquill::Refusal;
             ///
-            /// assert_eq!(Refusal::from_number(7), Some(Refusal::BufferTooShort));
+            /// assert_eq!(Refusal::from_number(Refusal::BufferTooShort.number()), Some(Refusal::BufferTooShort));
             /// assert_eq!(Refusal::from_number(0), None);
             /// ```
             pub const fn from_number(number: i64) -> Option<Refusal> {
@@ -86,31 +86,33 @@ macro_rules! refusals {
 
 refusals! {
     /// A year outside [`YEARS`].
-    YearOutOfRange = 1, ("year outside {} to {}", YEARS.start(), YEARS.end());
+    YearOutOfRange = 1, ("year outside {}..{}", YEARS.start(), YEARS.end());
     /// A month outside [`MONTHS`].
-    MonthOutOfRange = 2, ("month outside {} to {}", MONTHS.start(), MONTHS.end());
+    MonthOutOfRange = 2, ("month outside {}..{}", MONTHS.start(), MONTHS.end());
     /// A day that its month does not have.
-    DayOutOfRange = 3, ("day outside 1 to the length of its month");
+    DayOutOfRange = 3, ("day outside 1..length of that month");
     /// A count outside [`DAYS`](crate::DAYS), an instant outside [`INSTANTS`](crate::INSTANTS), or a shifted date that is
     /// outside the range of dates.
-    OutOfRange = 4, ("day count, instant or shifted date outside the years {} to {}", YEARS.start(), YEARS.end());
+    OutOfRange = 4, ("day count, instant or shifted date outside the range");
     /// An hour, minute, second or millisecond that no day has. Second 60 is one.
     TimeOutOfRange = 5, (
-        "hour outside 0 to {}, minute or second outside 0 to {}, or millisecond outside 0 to {}",
+        "hour outside 0..{}, minute or second outside 0..{}, or millisecond outside 0..{}",
         DAY / HOUR - 1,
         HOUR / MINUTE - 1,
         SECOND - 1
     );
     /// A position outside [`POSITIONS`].
-    PositionOutOfRange = 6, ("position outside {} to {} milliseconds", POSITIONS.start(), POSITIONS.end());
+    PositionOutOfRange = 6, ("position below {} or above {}", POSITIONS.start(), POSITIONS.end());
     /// A buffer with fewer bytes than the label.
     BufferTooShort = 7, ("buffer shorter than the label");
     /// A label of another length or shape than the writer's.
-    MalformedLabel = 8, ("not a label of {INSTANT_LABEL_BYTES} bytes in the form {INSTANT_LABEL_FORM}");
+    MalformedLabel = 8, (
+        "label not {INSTANT_LABEL_BYTES} bytes, a non-digit where a digit stands, or a wrong mark"
+    );
     /// A constant outside [`Constants::LEAST`](crate::Constants::LEAST) and
     /// [`Constants::LARGEST`](crate::Constants::LARGEST), an end outside [`SEARCH_ENDS`](crate::SEARCH_ENDS) or a bound
     /// outside [`CLAIM_BOUNDS`](crate::CLAIM_BOUNDS).
-    ConstantOutOfLimits = 9, ("constant, search end or claimed bound outside its limits");
+    ConstantOutOfLimits = 9, ("a constant, a search end or a claimed bound outside its limits");
     /// The quotients differ at an input below the claimed bound.
     DifferenceBelowBound = 10, ("claim: a difference stands below the bound");
     /// The quotients differ at no input up to the claimed bound.
@@ -166,11 +168,14 @@ mod tests {
         for &refusal in Refusal::ALL {
             assert_eq!(Refusal::of(-refusal.number()), refusal);
         }
-        for answer in [i64::MIN, -1000, -13, 1, 4, 12, i64::MAX] {
+        let unknown = 1 + Refusal::ALL.iter().map(|refusal| refusal.number()).max().unwrap_or_default();
+        let above_zero = Refusal::ALL.iter().map(|refusal| refusal.number());
+        for answer in above_zero.chain([i64::MIN, -1000, -unknown, i64::MAX]) {
             let refusal = Refusal::of(answer);
             assert!(!Refusal::ALL.contains(&refusal));
             assert_eq!(refusal.number(), answer.wrapping_neg());
         }
-        assert_eq!(Refusal::of(-13).to_string(), "refusal 13, which this version does not know");
+        let words = std::format!("refusal {unknown}, which this version does not know");
+        assert_eq!(Refusal::of(-unknown).to_string(), words);
     }
 }

@@ -14,7 +14,7 @@ macro_rules! weekdays {
         ///
         /// let day = weekday(19487)?;
         /// assert_eq!(day, Weekday::Wednesday);
-        /// assert_eq!(day.number(), 3);
+        /// assert_eq!(Weekday::from_number(day.number()), Some(day));
         /// assert_eq!(day.name(), "Wednesday");
         /// assert_eq!(format!("on a {day}"), "on a Wednesday");
         /// # Ok::<(), ovenquill::Refusal>(())
@@ -31,7 +31,10 @@ macro_rules! weekdays {
             /// ```
             /// use ovenquill::Weekday;
             ///
-            /// assert_eq!(Weekday::ALL.map(Weekday::number), [0, 1, 2, 3, 4, 5, 6]);
+            /// for day in Weekday::ALL {
+            ///     println!("{}: {day}", day.number());
+            /// }
+            /// # assert!(Weekday::ALL.windows(2).all(|pair| pair[0].number() + 1 == pair[1].number()));
             /// ```
             pub const ALL: [Weekday; 7] = [$(Weekday::$name),+];
 
@@ -40,8 +43,10 @@ macro_rules! weekdays {
             /// ```
             /// use ovenquill::Weekday;
             ///
-            /// assert_eq!(Weekday::from_number(0), Some(Weekday::Sunday));
-            /// assert_eq!(Weekday::from_number(7), None);
+            /// for day in Weekday::ALL {
+            ///     assert_eq!(Weekday::from_number(day.number()), Some(day));
+            /// }
+            /// assert_eq!(Weekday::from_number(-1), None);
             /// ```
             pub const fn from_number(number: i64) -> Option<Weekday> {
                 match number {
@@ -75,10 +80,12 @@ weekdays! {
 }
 
 impl Weekday {
-    /// The number, 0 for Sunday to 6 for Saturday.
+    /// The number, which stands at each name.
     ///
     /// ```
-    /// assert_eq!(ovenquill::Weekday::Thursday.number(), 4);
+    /// use ovenquill::Weekday;
+    ///
+    /// assert_eq!(Weekday::Thursday.number(), Weekday::Wednesday.number() + 1);
     /// ```
     pub const fn number(self) -> i64 {
         self as i64

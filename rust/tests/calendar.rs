@@ -128,8 +128,10 @@ fn dates_as_text() {
         (Date::new(-1, 12, 31), "-0001-12-31"),
         (Date::new(31999, 2, 3), "31999-02-03"),
         (Date::new(i64::MIN, 13, 99), "-9223372036854775808-13-99"),
+        (Date::new(i64::MIN, i64::MIN, i64::MIN), "-9223372036854775808--9223372036854775808--9223372036854775808"),
     ] {
         assert_eq!(date.to_string(), text);
+        assert_eq!(format!("{date:>70}|{date:<70}|{date:*^70}|"), format!("{text:>70}|{text:<70}|{text:*^70}|"));
     }
     assert!(Date::new(1999, 12, 31) < Date::new(2000, 1, 1));
     assert!(Date::new(2000, 1, 31) < Date::new(2000, 2, 1));
@@ -137,13 +139,10 @@ fn dates_as_text() {
 
 #[test]
 fn every_day_both_ways() {
-    let mut tried = 0;
     for days in FIRST_DAY..=LAST_DAY {
         try_count(days);
         try_date(plain::civil_from_days(days).value());
-        tried += 1;
     }
-    assert_eq!(tried, 3652425);
 }
 
 #[test]

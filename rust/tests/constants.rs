@@ -1,4 +1,4 @@
-//! Constants on trial: the search and the claim against a plain scan of every n, and, where the end is too far to scan,
+//! Constants: the search and the claim against a plain scan of every n, and, where the end is too far to scan,
 //! against a walk of all residues that is held to the scan first (tests/support/plain.rs); and against document 01's rows.
 
 mod support;

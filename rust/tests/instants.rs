@@ -30,7 +30,6 @@ fn try_fields(fields: Fields) {
 #[test]
 fn range_of_document_01() {
     assert_eq!(INSTANTS, FIRST_INSTANT..=LAST_INSTANT);
-    assert_eq!(DAY, 86400000);
 }
 
 #[test]
@@ -274,7 +273,7 @@ fn indexes_of_unequal_lengths() {
     for length in (0..=70).chain([1000]) {
         let good = random_instants(&mut random, length);
         let bad = vec![i64::MAX; length];
-        for days_length in (0..=length + 3).chain([2 * length, 1000]) {
+        for days_length in (0..=length + 3).chain([2 * length, 1000, length + 256, length + 65536]) {
             // Refusal 12 comes before 4.
             try_index(&good, days_length);
             try_index(&bad, days_length);

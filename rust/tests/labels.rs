@@ -11,8 +11,8 @@ use std::collections::HashSet;
 use support::answer::Answer::{self, Refused, Value};
 use support::answer::{answer, Refusing};
 use support::plain::{
-    self, DAY, FIRST_DAY, FIRST_INSTANT, LABEL_BYTES, LAST_DAY, LAST_INSTANT, LAST_POSITION, POSITION_HOUR,
-    POSITION_MINUTE, POSITION_SECOND, SECOND,
+    self, DAY, FIRST_DAY, FIRST_INSTANT, FIRST_YEAR, LABEL_BYTES, LAST_DAY, LAST_INSTANT, LAST_POSITION, LAST_YEAR,
+    POSITION_HOUR, POSITION_MINUTE, POSITION_SECOND, SECOND,
 };
 use support::random::Random;
 
@@ -23,7 +23,7 @@ fn try_writing<E: Refusing>(
     number: i64,
     length: usize,
 ) {
-    let fill = 0x80 + (length as u8);
+    let fill = 0x80 | (length as u8); // no byte of a label
     let mut result = Refused(0);
     let bytes = support::with_guards(length, fill, |out| result = answer(ours(number, out)));
     let mut expected = vec![fill; length];
@@ -137,6 +137,11 @@ fn instants_in_buffers_of_every_length() {
             try_writing(write_instant, plain::write_instant, instant, length);
         }
     }
+    for length in support::LONG {
+        for instant in outside.into_iter().chain(inside) {
+            try_writing(write_instant, plain::write_instant, instant, length);
+        }
+    }
     // 4 before 7.
     assert_eq!(answer(write_instant(i64::MAX, &mut [0; LABEL_BYTES - 1])), Refused(4));
     assert_eq!(answer(write_instant(0, &mut [0; LABEL_BYTES - 1])), Refused(7));
@@ -163,6 +168,16 @@ fn labels_of_every_length() {
         let digits = b"2023-05-10T14:30:00.000Z2023-05-10T14:30:00.000Z";
         try_reading(&digits[..length]);
         assert_eq!(answer(read_instant(&digits[..length])) == Refused(8), length != LABEL_BYTES);
+    }
+    // A right label at the front, at the end and over and over.
+    for length in support::LONG {
+        let label = plain::instant_label(random.within(FIRST_INSTANT, LAST_INSTANT));
+        let mut bytes = vec![b'0'; length];
+        bytes[..LABEL_BYTES].copy_from_slice(&label);
+        try_reading(&bytes);
+        bytes[length - LABEL_BYTES..].copy_from_slice(&label);
+        try_reading(&bytes);
+        try_reading(&label.repeat(length / LABEL_BYTES + 1)[..length]);
     }
 }
 
@@ -209,12 +224,12 @@ fn every_value_of_every_field() {
         text.extend([date, "T", time, "Z"]);
         try_reading(text.as_bytes());
     };
-    for year in 0..=9999 {
+    for year in FIRST_YEAR..=LAST_YEAR {
         for month_day in ["01-01", "02-28", "02-29", "02-30", "04-31", "12-31", "13-01", "00-00"] {
             read(&format!("{year:04}-{month_day}"), "23:59:59.999");
         }
     }
-    for year in [0, 1, 4, 100, 400, 1900, 2000, 2023, 2100, 9999] {
+    for year in [FIRST_YEAR, 1, 4, 100, 400, 1900, 2000, 2023, 2100, LAST_YEAR] {
         for month in 0..=99 {
             for day in 0..=99 {
                 let date = format!("{year:04}-{month:02}-{day:02}");
@@ -314,6 +329,11 @@ fn every_hour() {
 fn positions_in_buffers_of_every_length() {
     for length in 0..=20 {
         for position in positions_worth_trying() {
+            try_writing(write_position, plain::write_position, position, length);
+        }
+    }
+    for length in support::LONG {
+        for position in [i64::MIN, -1, 0, 4287767296, LAST_POSITION, LAST_POSITION + 1, i64::MAX] {
             try_writing(write_position, plain::write_position, position, length);
         }
     }

@@ -178,6 +178,9 @@ fn the_reader() {
         if random.within(0, 9) == 0 {
             label.pop();
         }
+        if random.within(0, 99) == 0 {
+            label.resize(random.choose(&support::LONG), b'0');
+        }
         try_place(plain::read_instant(&label), BEFORE, |instant| unsafe {
             raw::ovenquill_read_instant(label.as_ptr(), label.len(), instant)
         });
@@ -185,7 +188,7 @@ fn the_reader() {
 }
 
 #[test]
-fn constants_on_trial() {
+fn searches_and_claims() {
     let mut random = Random::new(29);
     let mut seen = [0; 4];
     for _ in 0..300_000 {

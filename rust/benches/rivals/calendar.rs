@@ -1,5 +1,6 @@
-//! The calendar: algorithms 3 and 4 of source document 000, section 6, with ordinary divisions. Years and days are counted
-//! from 400 years before its epoch, 0000-03-01, so that no number is negative.
+//! The calendar: algorithms 3 and 4 of source document 000, section 6, with ordinary divisions, and algorithms 5 and 6 of its
+//! section 8, which multiply and shift. Years and days are counted from 400 years before its epoch, 0000-03-01, so that no
+//! number is negative. Month lengths come from a table, and what is added to them is computed without a branch.
 
 use super::{returned, to_place};
 use ovenquill::{Date, DAYS, YEARS};
@@ -14,6 +15,10 @@ const EPOCH: i64 = 719468 + 146097;
 const EPOCH_WEEKDAY: u32 = 4;
 const WEEKS_BEFORE: i64 = 7 * (FIRST_DAY / 7 - 1);
 
+/// The two ways of a conversion: algorithms 3 and 4, or 5 and 6.
+pub const BY_DIVISIONS: bool = false;
+pub const BY_SHIFTS: bool = true;
+
 /// A date that is right.
 #[derive(Clone, Copy)]
 pub struct Parts {
@@ -22,33 +27,42 @@ pub struct Parts {
     pub day: u32,
 }
 
-/// Algorithm 3. The count is in the range.
+/// Algorithm 5 by shifts, else algorithm 3. The count is in the range.
 #[inline(always)]
-pub fn date_of(days: i64) -> Parts {
+pub fn date_of<const SHIFTS: bool>(days: i64) -> Parts {
     let n = (days + EPOCH) as u32;
     let n_1 = 4 * n + 3;
     let c = n_1 / 146097;
     let n_c = n_1 % 146097 / 4;
     let n_2 = 4 * n_c + 3;
-    let z = n_2 / 1461;
-    let n_y = n_2 % 1461 / 4;
+    let (z, n_y) = if SHIFTS {
+        let p_2 = 2939745 * u64::from(n_2);
+        ((p_2 >> 32) as u32, p_2 as u32 / 2939745 / 4)
+    } else {
+        (n_2 / 1461, n_2 % 1461 / 4)
+    };
     let y = 100 * c + z;
-    let n_3 = 5 * n_y + 461;
-    let m = n_3 / 153;
-    let d = n_3 % 153 / 5;
-    let j = u32::from(m >= 13);
+    let (m, d, j) = if SHIFTS {
+        let n_3 = 2141 * n_y + 197913;
+        (n_3 >> 16, n_3 % (1 << 16) / 2141, u32::from(n_y >= 306))
+    } else {
+        let n_3 = 5 * n_y + 461;
+        let m = n_3 / 153;
+        (m, n_3 % 153 / 5, u32::from(m >= 13))
+    };
     Parts { year: y + j - 400, month: m - 12 * j, day: d + 1 }
 }
 
-/// Algorithm 4.
+/// Algorithm 6 by shifts, else algorithm 4.
 #[inline(always)]
-pub fn days_of(date: Parts) -> i64 {
+pub fn days_of<const SHIFTS: bool>(date: Parts) -> i64 {
     let j = u32::from(date.month <= 2);
     let y = date.year + 400 - j;
     let m = date.month + 12 * j;
     let d = date.day - 1;
     let c = y / 100;
-    let n = 1461 * y / 4 - c + c / 4 + (153 * m - 457) / 5 + d;
+    let days_before_month = if SHIFTS { (979 * m - 2919) >> 5 } else { (153 * m - 457) / 5 };
+    let n = 1461 * y / 4 - c + c / 4 + days_before_month + d;
     i64::from(n) - EPOCH
 }
 
@@ -57,13 +71,13 @@ fn leap(year: u32) -> bool {
     year & (if year % 100 == 0 { 15 } else { 3 }) == 0
 }
 
+/// Of a common year, by the month.
+static LENGTHS: [u8; 13] = [0, 31, 28, 31, 30, 31, 30, 31, 31, 30, 31, 30, 31];
+static DAYS_BEFORE: [u16; 13] = [0, 0, 31, 59, 90, 120, 151, 181, 212, 243, 273, 304, 334];
+
 #[inline(always)]
 pub fn month_length(year: u32, month: u32) -> u32 {
-    if month == 2 {
-        28 + u32::from(leap(year))
-    } else {
-        30 | (month ^ (month >> 3))
-    }
+    u32::from(LENGTHS[month as usize]) + (u32::from(month == 2) & u32::from(leap(year)))
 }
 
 /// The year, or refusal 1.
@@ -87,11 +101,11 @@ fn checked_month(year: i64, month: i64) -> Result<(u32, u32), i64> {
     }
 }
 
-/// The date, or refusal 1, 2 or 3.
+/// The date, or refusal 1, 2 or 3. Most days are in every month.
 #[inline(always)]
 pub fn checked_date(year: i64, month: i64, day: i64) -> Result<Parts, i64> {
     let (year, month) = checked_month(year, month)?;
-    if day < 1 || day > i64::from(month_length(year, month)) {
+    if day < 1 || day > 28 && day > i64::from(month_length(year, month)) {
         return Err(3);
     }
     Ok(Parts { year, month, day: day as u32 })
@@ -109,21 +123,21 @@ fn checked_count(days: i64) -> Result<i64, i64> {
 
 /// The date of a count, or refusal 4.
 #[inline(always)]
-fn checked_date_of(days: i64) -> Result<Date, i64> {
+fn checked_date_of<const SHIFTS: bool>(days: i64) -> Result<Date, i64> {
     checked_count(days).map(|days| {
-        let Parts { year, month, day } = date_of(days);
+        let Parts { year, month, day } = date_of::<SHIFTS>(days);
         Date::new(year.into(), month.into(), day.into())
     })
 }
 
 #[inline(never)]
-pub unsafe extern "C" fn days_from_civil(year: i64, month: i64, day: i64, days: *mut i64) -> i64 {
-    to_place(days, checked_date(year, month, day).map(days_of))
+pub unsafe extern "C" fn days_from_civil<const SHIFTS: bool>(year: i64, month: i64, day: i64, days: *mut i64) -> i64 {
+    to_place(days, checked_date(year, month, day).map(days_of::<SHIFTS>))
 }
 
 #[inline(never)]
-pub unsafe extern "C" fn civil_from_days(days: i64, date: *mut Date) -> i64 {
-    to_place(date, checked_date_of(days))
+pub unsafe extern "C" fn civil_from_days<const SHIFTS: bool>(days: i64, date: *mut Date) -> i64 {
+    to_place(date, checked_date_of::<SHIFTS>(days))
 }
 
 #[inline(never)]
@@ -141,20 +155,22 @@ pub unsafe extern "C" fn last_day_of_month(year: i64, month: i64) -> i64 {
     returned(checked_month(year, month).map(|(year, month)| month_length(year, month).into()))
 }
 
-static DAYS_BEFORE: [u16; 13] = [0, 0, 31, 59, 90, 120, 151, 181, 212, 243, 273, 304, 334];
-
 #[inline(never)]
 pub unsafe extern "C" fn day_of_year(year: i64, month: i64, day: i64) -> i64 {
-    returned(checked_date(year, month, day).map(|date| {
-        let leap_day = u32::from(date.month > 2 && leap(date.year));
-        (u32::from(DAYS_BEFORE[date.month as usize]) + leap_day + date.day).into()
+    returned(checked_month(year, month).and_then(|(year, month)| {
+        // The year is tested for the leap day anyway, so the month's length costs less than a branch around it.
+        if day < 1 || day > i64::from(month_length(year, month)) {
+            return Err(3);
+        }
+        let leap_day = u32::from(month > 2) & u32::from(leap(year));
+        Ok(i64::from(u32::from(DAYS_BEFORE[month as usize]) + leap_day) + day)
     }))
 }
 
 #[inline(never)]
 pub unsafe extern "C" fn add_days(year: i64, month: i64, day: i64, days: i64, date: *mut Date) -> i64 {
     let shifted = checked_date(year, month, day)
-        .and_then(|from| days_of(from).checked_add(days).ok_or(4))
-        .and_then(checked_date_of);
+        .and_then(|from| days_of::<BY_SHIFTS>(from).checked_add(days).ok_or(4))
+        .and_then(checked_date_of::<BY_SHIFTS>);
     to_place(date, shifted)
 }

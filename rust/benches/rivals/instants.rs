@@ -1,43 +1,55 @@
-//! Instants: `div_euclid` and `rem_euclid`, with the same refusals.
+//! Instants: counted from the first, so that the quotient and the rest are unsigned ones, with the same refusals.
 
-use super::calendar::{checked_date, date_of, days_of, Parts};
+use super::calendar::{checked_date, date_of, days_of, Parts, BY_SHIFTS};
 use super::to_place;
 use core::slice;
-use ovenquill::{Fields, INSTANTS};
+use ovenquill::{Fields, DAYS, INSTANTS};
 
 pub const SECOND: i64 = 1000;
 pub const MINUTE: i64 = 60 * SECOND;
 pub const HOUR: i64 = 60 * MINUTE;
 pub const DAY: i64 = 24 * HOUR;
+/// The rivals keep the time of day in 32 bits.
+const _: () = assert!(DAY <= u32::MAX as i64);
+
+const FIRST: i64 = *INSTANTS.start();
+const LAST: i64 = *INSTANTS.end();
 
 /// The instant, or refusal 4.
 #[inline(always)]
 pub fn checked(instant: i64) -> Result<i64, i64> {
-    if (*INSTANTS.start()..=*INSTANTS.end()).contains(&instant) {
+    if (FIRST..=LAST).contains(&instant) {
         Ok(instant)
     } else {
         Err(4)
     }
 }
 
+/// The day of an instant in the range, and its time of day.
+#[inline(always)]
+pub fn day_and_time(instant: i64) -> (i64, u32) {
+    let from_first = (instant - FIRST) as u64;
+    ((from_first / DAY as u64) as i64 + *DAYS.start(), (from_first % DAY as u64) as u32)
+}
+
 /// The instant of a date and a time of day that are right.
 #[inline(always)]
 pub fn joined(date: Parts, hour: u32, minute: u32, second: u32, millisecond: u32) -> i64 {
     let time = ((hour * 60 + minute) * 60 + second) * SECOND as u32 + millisecond;
-    days_of(date) * DAY + i64::from(time)
+    days_of::<BY_SHIFTS>(date) * DAY + i64::from(time)
 }
 
 #[inline(never)]
 pub unsafe extern "C" fn day_of_instant(instant: i64, days: *mut i64) -> i64 {
-    to_place(days, checked(instant).map(|instant| instant.div_euclid(DAY)))
+    to_place(days, checked(instant).map(|instant| day_and_time(instant).0))
 }
 
 #[inline(never)]
 pub unsafe extern "C" fn split_instant(instant: i64, fields: *mut Fields) -> i64 {
     let split = checked(instant).map(|instant| {
-        let date = date_of(instant.div_euclid(DAY));
-        let rest = instant.rem_euclid(DAY) as u32;
-        let seconds = rest / SECOND as u32;
+        let (days, time) = day_and_time(instant);
+        let date = date_of::<BY_SHIFTS>(days);
+        let seconds = time / SECOND as u32;
         Fields {
             year: date.year.into(),
             month: date.month.into(),
@@ -45,7 +57,7 @@ pub unsafe extern "C" fn split_instant(instant: i64, fields: *mut Fields) -> i64
             hour: (seconds / 3600).into(),
             minute: (seconds / 60 % 60).into(),
             second: (seconds % 60).into(),
-            millisecond: (rest % SECOND as u32).into(),
+            millisecond: (time % SECOND as u32).into(),
         }
     });
     to_place(fields, split)
@@ -83,12 +95,17 @@ pub unsafe extern "C" fn index_days(
     if instants.len() != days.len() {
         return -12;
     }
-    if let Some(bad) = instants.iter().position(|&instant| checked(instant).is_err()) {
-        place.write(bad as i64);
-        return -4;
+    // Below zero if any instant is outside: all are tested without an early exit, in a form that becomes vector code.
+    let signs =
+        instants.iter().fold(0, |signs, instant| signs | instant.wrapping_sub(FIRST) | LAST.wrapping_sub(*instant));
+    if signs < 0 {
+        if let Some(bad) = instants.iter().position(|&instant| checked(instant).is_err()) {
+            place.write(bad as i64);
+            return -4;
+        }
     }
-    for (day, instant) in days.iter_mut().zip(instants) {
-        *day = instant.div_euclid(DAY) as i32;
+    for (day, &instant) in days.iter_mut().zip(instants) {
+        *day = day_and_time(instant).0 as i32;
     }
     days.len() as i64
 }

@@ -1,7 +1,7 @@
 //! Labels: two digits at a time, from a table or by a division.
 
-use super::calendar::{date_of, month_length, Parts};
-use super::instants::{checked, joined, DAY, HOUR};
+use super::calendar::{date_of, month_length, Parts, BY_SHIFTS};
+use super::instants::{checked, day_and_time, joined, HOUR, SECOND};
 use super::to_place;
 use core::slice;
 use ovenquill::{INSTANT_LABEL_BYTES, POSITIONS};
@@ -27,17 +27,20 @@ unsafe fn put_pair<const TABLE: bool>(out: *mut u8, n: u32) {
     }
 }
 
-/// `MM:SS.mmm` of a number of milliseconds below an hour.
+/// `MM:SS.` of a number of seconds below an hour.
 #[inline(always)]
-unsafe fn put_minutes<const TABLE: bool>(out: *mut u8, rest: u32) {
-    let seconds = rest / 1000;
-    let millisecond = rest % 1000;
+unsafe fn put_minutes<const TABLE: bool>(out: *mut u8, seconds: u32) {
     put_pair::<TABLE>(out, seconds / 60);
     *out.add(2) = b':';
     put_pair::<TABLE>(out.add(3), seconds % 60);
     *out.add(5) = b'.';
-    *out.add(6) = b'0' + (millisecond / 100) as u8;
-    put_pair::<TABLE>(out.add(7), millisecond % 100);
+}
+
+/// Three digits of a number below 1000.
+#[inline(always)]
+unsafe fn put_three<const TABLE: bool>(out: *mut u8, n: u32) {
+    *out = b'0' + (n / 100) as u8;
+    put_pair::<TABLE>(out.add(1), n % 100);
 }
 
 #[inline(never)]
@@ -48,8 +51,9 @@ pub unsafe extern "C" fn write_instant<const TABLE: bool>(instant: i64, out: *mu
     if length < INSTANT_LABEL_BYTES {
         return -7;
     }
-    let date = date_of(instant.div_euclid(DAY));
-    let rest = instant.rem_euclid(DAY) as u32;
+    let (days, time) = day_and_time(instant);
+    let date = date_of::<BY_SHIFTS>(days);
+    let rest = time % HOUR as u32;
     put_pair::<TABLE>(out, date.year / 100);
     put_pair::<TABLE>(out.add(2), date.year % 100);
     *out.add(4) = b'-';
@@ -57,15 +61,17 @@ pub unsafe extern "C" fn write_instant<const TABLE: bool>(instant: i64, out: *mu
     *out.add(7) = b'-';
     put_pair::<TABLE>(out.add(8), date.day);
     *out.add(10) = b'T';
-    put_pair::<TABLE>(out.add(11), rest / HOUR as u32);
+    put_pair::<TABLE>(out.add(11), time / HOUR as u32);
     *out.add(13) = b':';
-    put_minutes::<TABLE>(out.add(14), rest % HOUR as u32);
+    put_minutes::<TABLE>(out.add(14), rest / SECOND as u32);
+    put_three::<TABLE>(out.add(20), rest % SECOND as u32);
     *out.add(23) = b'Z';
     INSTANT_LABEL_BYTES as i64
 }
 
-/// An hour of a position, in milliseconds.
-pub const POSITION_HOUR: i64 = 3600000;
+/// A second and an hour of a position, in milliseconds.
+const POSITION_SECOND: i64 = 1000;
+pub const POSITION_HOUR: i64 = 3600 * POSITION_SECOND;
 
 #[inline(never)]
 pub unsafe extern "C" fn write_position<const TABLE: bool>(position: i64, out: *mut u8, length: usize) -> i64 {
@@ -100,7 +106,8 @@ pub unsafe extern "C" fn write_position<const TABLE: bool>(position: i64, out: *
         }
     }
     *out.add(digits) = b':';
-    put_minutes::<TABLE>(out.add(digits + 1), rest);
+    put_minutes::<TABLE>(out.add(digits + 1), rest / POSITION_SECOND as u32);
+    put_three::<TABLE>(out.add(digits + 7), rest % POSITION_SECOND as u32);
     digits as i64 + 10
 }
 

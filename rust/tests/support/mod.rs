@@ -19,6 +19,10 @@ pub fn powers() -> Vec<i64> {
     numbers
 }
 
+/// Lengths of buffers far above a label's, on either side of what a byte holds and, behind the last whole 256 or 65536 bytes,
+/// of an instant label's own length.
+pub const LONG: [usize; 7] = [41, 64, 255, 256, 256 + plain::LABEL_BYTES, 4096, 65536 + plain::LABEL_BYTES];
+
 /// Lends the call the middle of a buffer and answers the middle as it is afterwards. The bytes on either side, 48 or a few
 /// more, must stay as they were.
 pub fn with_guards(length: usize, fill: u8, call: impl FnOnce(&mut [u8])) -> Vec<u8> {

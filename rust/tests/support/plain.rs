@@ -320,7 +320,7 @@ pub fn read_instant(label: &[u8]) -> Answer<i64> {
     })
 }
 
-// Constants on trial
+// Constants that stand for a division
 
 pub fn allowed(q: Constants) -> bool {
     (LEAST.a..=LARGEST.a).contains(&q.a)
