@@ -38,32 +38,7 @@ returns-4 c = is (c .before) 2 (lit< tt) (c .match .keys4)
 returns-5 : tie.Need-returns-5
 returns-5 c = let s = c .before in
     let r = c .match .rest in
-    no-key (s .args .month) (s .fits .month)
-    (each-month (λ k. ofZ w64 (s .args .month) ≡ k → ⊥) (
-      (
-        (
-          (
-            (
-              (
-                (
-                  (
-                    ((((tt, λ e. r .0 .0 .0 .1 (inl e)), λ e. r .1 e), λ e. r .0 .0 .0 .1 (inr (inl e))), λ e. r .0 .0 .1 (inl e)),
-                    λ e. r .0 .0 .0 .1 (inr (inr (inl e))),
-                  ),
-                  λ e. r .0 .0 .1 (inr (inl e)),
-                ),
-                λ e. r .0 .0 .0 .1 (inr (inr (inr e))),
-              ),
-              λ e. r .0 .1 (inl e),
-            ),
-            λ e. r .0 .0 .1 (inr (inr (inl e))),
-          ),
-          λ e. r .0 .1 (inr (inl e)),
-        ),
-        λ e. r .0 .0 .1 (inr (inr (inr e))),
-      ),
-      λ e. r .0 .1 (inr (inr e)),
-    ))
+    no-key (s .args .month) (s .fits .month) (each-month (λ k. ofZ w64 (s .args .month) ≡ k → ⊥) ((((((((((((tt, λ e. r .0 .0 .0 .1 (inl e)), λ e. r .1 e), λ e. r .0 .0 .0 .1 (inr (inl e))), λ e. r .0 .0 .1 (inl e)), λ e. r .0 .0 .0 .1 (inr (inr (inl e)))), λ e. r .0 .0 .1 (inr (inl e))), λ e. r .0 .0 .0 .1 (inr (inr (inr e)))), λ e. r .0 .1 (inl e)), λ e. r .0 .0 .1 (inr (inr (inl e)))), λ e. r .0 .1 (inr (inl e))), λ e. r .0 .0 .1 (inr (inr (inr e)))), λ e. r .0 .1 (inr (inr e))))
 
 pub common-length-spec : {M : Type 1} → statement M
 common-length-spec = tie.close (tie.spec returns returns-2 returns-3 returns-4 returns-5)
