@@ -42,10 +42,6 @@ with-leap-day : (l m : ℕ) → 1 ≤ m → m ≤ 12 → monthDays l m ≡ month
 unfolding monthDays
 with-leap-day l = each-month (λ m. monthDays l m ≡ monthDays 0 m + boolByte (eqb m 2) * l) (omega arith)
 
-pub leap-day-le : (t : Bool) (l : ℕ) → l ≤ 1 → boolByte t * l ≤ 1
-leap-day-le true l h = omega arith
-leap-day-le false l h = omega arith
-
 -- an accepted month: its length in a common year, its year counted from baseYear and the leap days of that
 pub record AcceptedMonth (year month len : ℤ) (y l : ℕ) : Type 0 where
   pub year-inside : outside firstYear lastYear year ≡ false
