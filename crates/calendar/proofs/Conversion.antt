@@ -58,10 +58,12 @@ same-day n = day-of (regular n) ∙ ap (λ r. r / 4) (rest-of (regular n) (centu
 day-from-one : (k : ℕ) → k + 1 - fromMarch ((5 * k + 461) / 153) ≡ (5 * k + 461) % 153 / 5 + 1
 day-from-one k = omega arith
 
+-- a test as a number
 flag-le : (t : Bool) → boolByte t ≤ 1
 flag-le true = omega arith
 flag-le false = omega arith
 
+-- what the code's steps ask of the numbers, and what they come to
 module _ (n : ℕ) (h : n ≤ lastDay) where
   pub new-year-le : newYear (marchDay n) ≤ 1
   new-year-le = flag-le (leb 306 (marchDay n))
@@ -106,6 +108,7 @@ late-sum y L L′ l B b d A C D e p k q h = omega arith
 fewer : (y : ℕ) → y / 100 ≤ y / 4
 fewer y = omega arith
 
+-- the sum that the code takes, with b days before the month
 abbrev pub daySum : (y m b d : ℕ) → ℕ
 daySum y m b d = 365 * y + (y - beforeMarch m) / 4 - (y - beforeMarch m) / 100 + (y - beforeMarch m) / 100 / 4 + b + d
 
@@ -128,6 +131,7 @@ algorithm-4 y m d b v lo f = go (leb m 2) refl
         (late-sum y (leaps y) (leaps (y + 1)) (leapDay y) b (before (leapDay y) m) d _ _ _ (leaps-step y) (leaps-next y)
         (fewer y) (before-late (leapDay y) m (omega arith) (v .month-high) ∙ ap (λ b. b + leapDay y) (sym f)) (v .day-low))
 
+-- it is the day's number, and lies in the range
 pub day-number :
     (y m d b : ℕ) → InRange y m d → b ≡ before 0 m →
     (daySum y m b d ≡ count y m d) × ((cycle ≤ daySum y m b d) × (daySum y m b d ≤ cycle + lastDay))

@@ -4,15 +4,14 @@ use mathlib.Core.Path.{_≡_, refl, sym, ap, _∙_, subst}
 use mathlib.Core.Bool.{Bool, true, false, cond}
 use native.Mathlib.Omega.{arith}
 use lib.IntN.{ℤ, pos, natAbs, _+ℤ_, +ℤ-assoc}
-use lib.Signed.{ltZ}
-use borrow.Author.Tests.{ltb-false}
 use mir.Syntax.{w64}
 use mir.Val.{SFits}
 use Rattle.refusal.specs.declared.Refusal.{Refusal}
 use Rattle.refusal.specs.Numbers.{refusalNumber}
 use Rattle.refusal.specs.Outcome.{Outcome, value, refused}
 use Rattle.numbers.specs.Range.{outside, since}
-use Rattle.numbers.proofs.Integers.{above, outside-no, inside, add-injective}
+use Rattle.numbers.proofs.Integers.{inside, since-add}
+use Rattle.numbers.proofs.Between.{within}
 use Rattle.numbers.proofs.Machine.{read}
 use Rattle.calendar.specs.declared.Date.{Date}
 use Rattle.calendar.specs.declared.Checked.{Checked}
@@ -40,24 +39,19 @@ pub record NaturalDate (date : Date) : Type 0 where
 
 pub natural : (d : Date) → ValidDate d → NaturalDate d
 natural date v =
-    let mo = outside-no (pos 1) (pos 12) (date .month) (v .month-inside) in
-    let da = outside-no (pos 1) (monthLength (date .year) (date .month)) (date .day) (v .day-inside) in
-    let a = above (pos 1) (date .month) (mo .0) in
-    let b = above (pos 1) (date .day) (da .0) in
     let y = since baseYear (date .year) in
-    let m = 1 + a .0 in
-    let d = 1 + b .0 in
+    let m = natAbs (date .month) in
     let p = sym (year-is (date .year) (v .year-inside)) in
-    let hm : m ≤ 12 = ltb-false 12 m (ap (ltZ (pos 12)) (sym (a .1)) ∙ mo .1) in
+    let mo = within 1 (pos 12) (date .month) (v .month-inside) in
     let len : monthLength (date .year) (date .month) ≡ pos (monthDays (leapDay y) m) =
-    (λ i. monthLength (p i) (a .1 i)) ∙ length-public y m (omega arith) hm in
-    let hd : d ≤ monthDays (leapDay y) m = ltb-false (monthDays (leapDay y) m) d ((λ i. ltZ (sym len i) (sym (b .1) i)) ∙ da .1) in
-    let w : Valid y m d = record { month-low = omega arith; month-high = hm; day-low = omega arith; day-high = hd } in
+    (λ i. monthLength (p i) (mo .is i)) ∙ length-public y m (mo .low) (mo .high) in
+    let da = within 1 (pos (monthDays (leapDay y) m)) (date .day) (ap (λ l. outside (pos 1) l (date .day)) (sym len) ∙ v .day-inside) in
+    let w : Valid y m (natAbs (date .day)) = record { month-low = mo .low; month-high = mo .high; day-low = da .low; day-high = da .high } in
     record {
       y = y;
       m = m;
-      d = d;
-      is = (λ i. record { year = p i; month = a .1 i; day = b .1 i });
+      d = natAbs (date .day);
+      is = (λ i. record { year = p i; month = mo .is i; day = da .is i });
       valid = w;
       in-range = record { valid = w; from = year-from (date .year) (v .year-inside); to = year-to (date .year) (v .year-inside) };
     }
@@ -139,13 +133,12 @@ module _ (year month day len : ℤ) (e : value len ≡ lastDayAnswer year month)
         (y : ℕ) → baseYear +ℤ pos y ≡ year →
         (value (public y (natAbs month) (natAbs day)) ≡ ofDate year month day value)
         × InRange y (natAbs month) (natAbs day)
+    unfolding natural
     date-accepted y p =
         let n = natural (date year month day) day-accepted in
-        let q : n .y ≡ y = add-injective baseYear (n .y) y (sym (ap (λ (d : Date). d .year) (n .is)) ∙ sym p) in
-        let m : n .m ≡ natAbs month = sym (ap (λ (d : Date). natAbs (d .month)) (n .is)) in
-        let d : n .d ≡ natAbs day = sym (ap (λ (d : Date). natAbs (d .day)) (n .is)) in (
-          ap value ((λ i. public (sym q i) (sym m i) (sym d i)) ∙ sym (n .is)) ∙ sym (decided h),
-          subst (λ y. InRange y (natAbs month) (natAbs day)) q (subst (λ m. InRange (n .y) m (natAbs day)) m (subst (InRange (n .y) (n .m)) d (n .in-range))),
+        let q : since baseYear year ≡ y = ap (since baseYear) (sym p) ∙ since-add baseYear y in (
+          ap value ((λ i. public (sym q i) (natAbs month) (natAbs day)) ∙ sym (n .is)) ∙ sym (decided h),
+          subst (λ y. InRange y (natAbs month) (natAbs day)) q (n .in-range),
         )
 
 -- shifted dates

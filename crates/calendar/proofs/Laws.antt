@@ -25,7 +25,7 @@ use Rattle.calendar.proofs.Months.{length-public, within-year}
 use Rattle.calendar.proofs.Order.{Precedes, in-year, in-month, in-day, precedes-less, trichotomy}
 use Rattle.calendar.proofs.Steps.{at, found, count-after, at-in-range}
 use Rattle.calendar.proofs.Tests.{valid-answer, accepted-valid, accepted-is}
-use Rattle.calendar.proofs.Weekdays.{weekday-le, weekday-after}
+use Rattle.calendar.proofs.Weekdays.{weekday-le, weekday-add, weekday-after}
 use Rattle.calendar.proofs.Dates.{natural, year-day, counted, count-inside, days-inside, added}
 
 -- counts and valid dates correspond one to one
@@ -182,6 +182,9 @@ weekday-is-in-range z = inside-pos 0 6 (natAbs (weekday z)) (omega arith) (weekd
 
 pub weekday-moves-by-one : (z : ℤ) → weekday (z +ℤ pos 1) ≡ weekdayAfter (weekday z) 1
 weekday-moves-by-one z = weekday-after z 1
+
+pub weekday-moves-by : (z p : ℤ) → weekday (z +ℤ p) ≡ weekdayAfter (weekday z) (floorRemainder p 7)
+weekday-moves-by = weekday-add
 
 -- the day of the year: 1 to 366 in a leap year, 1 to 365 in a common one
 year-length : (y : ℕ) → cond (leapYear (baseYear +ℤ pos y)) (pos 366) (pos 365) ≡ pos (365 + leapDay y)

@@ -33,6 +33,11 @@ leap-cases P y by-no4 by-no100 by-no400 by-400 = go (eqb (y % 4) 0) (eqb (y % 10
 pub leap-le : (y : ℕ) → leapDay y ≤ 1
 leap-le y = leap-cases (λ l. l ≤ 1) y (λ a. omega arith) (λ a b. omega arith) (λ a b c. omega arith) (λ a b c. omega arith)
 
+-- .. and at most 1 where a test lets them count
+pub tested-leap-le : (t : Bool) (l : ℕ) → l ≤ 1 → boolByte t * l ≤ 1
+tested-leap-le true l h = omega arith
+tested-leap-le false l h = omega arith
+
 pub leap-is-one : (y : ℕ) → y % 4 ≡ 0 → (y % 100 ≡ 0 → y % 400 ≡ 0) → leapDay y ≡ 1
 leap-is-one y h k =
     leap-cases (λ l. l ≡ 1) y (λ a. absurd (a h)) (λ a b. refl) (λ a b c. absurd (c (k b))) (λ a b c. refl)

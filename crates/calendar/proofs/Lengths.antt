@@ -5,14 +5,12 @@ use mathlib.Core.Bool.{Bool, true, false, cond}
 use native.Mathlib.Omega.{arith}
 use lib.Dec.{eqb}
 use lib.IntN.{ℤ, pos, natAbs, _+ℤ_}
-use lib.Signed.{ltZ}
-use borrow.Author.Tests.{ltb-false}
 use mir.Syntax.{w64}
 use mir.Val.{SFits, toZ, ofZ, boolByte}
 use mir.Facts.{toZ-ofZ, toZ-pos}
 use Rattle.refusal.specs.Outcome.{value, refused}
-use Rattle.numbers.specs.Range.{outside, since}
-use Rattle.numbers.proofs.Integers.{above, outside-no, add-since, since-le}
+use Rattle.numbers.specs.Range.{outside}
+use Rattle.numbers.proofs.Between.{Within, within}
 use Rattle.numbers.proofs.Machine.{read, pos-fits, key-is}
 use Rattle.calendar.specs.Range.{firstYear, lastYear}
 use Rattle.calendar.specs.Gregorian.{monthLength}
@@ -33,10 +31,7 @@ module _ (month : ℤ) (f : SFits w64 month) where
     where
       go : (t : Bool) → outside (pos 1) (pos 12) month ≡ t → refused 2 ≡ cond t (refused 2) (value (pos (monthDays 0 (natAbs month))))
       go true e = refl
-      go false e =
-          let t = outside-no (pos 1) (pos 12) month e in
-          let n = since-le (pos 1) (pos 12) refl month (t .0) (t .1) in
-          absurd (none (1 + since (pos 1) month) (omega arith) (omega arith) (sym (ap (ofZ w64) (add-since (pos 1) month (t .0)))))
+      go false e = let n = within 1 (pos 12) month e in absurd (none (natAbs month) (n .low) (n .high) (ap (ofZ w64) (n .is)))
 
 pub length-refused : (year month : ℤ) (k : ℕ) → outside firstYear lastYear year ≡ false → refused k ≡ commonLength month → refused k ≡ lastDayAnswer year month
 unfolding commonLength lastDayAnswer
@@ -46,10 +41,6 @@ length-refused year month k h e = rw h (refuses (outside (pos 1) (pos 12) month)
 with-leap-day : (l m : ℕ) → 1 ≤ m → m ≤ 12 → monthDays l m ≡ monthDays 0 m + boolByte (eqb m 2) * l
 unfolding monthDays
 with-leap-day l = each-month (λ m. monthDays l m ≡ monthDays 0 m + boolByte (eqb m 2) * l) (omega arith)
-
-pub leap-day-le : (t : Bool) (l : ℕ) → l ≤ 1 → boolByte t * l ≤ 1
-leap-day-le true l h = omega arith
-leap-day-le false l h = omega arith
 
 -- an accepted month: its length in a common year, its year counted from baseYear and the leap days of that
 pub record AcceptedMonth (year month len : ℤ) (y l : ℕ) : Type 0 where
@@ -64,22 +55,17 @@ module _ {year month len : ℤ} {y l : ℕ} (a : AcceptedMonth year month len y 
   unfolding commonLength
   passed = let p = passes (outside (pos 1) (pos 12) month) 2 _ (a .common) in (p .0, same-value (p .1))
 
-  number : (m : ℕ) × ((1 ≤ m) × ((m ≤ 12) × (month ≡ pos m)))
-  number =
-      let t = outside-no (pos 1) (pos 12) month (passed .0) in
-      let n = above (pos 1) month (t .0) in
-      (1 + n .0, (omega arith, (ltb-false 12 (1 + n .0) (ap (ltZ (pos 12)) (sym (n .1)) ∙ t .1), n .1)))
+  number : Within 1 12 month
+  number = within 1 (pos 12) month (passed .0)
 
   days : monthDays 0 (natAbs month) + boolByte (eqb (ofZ w64 month) 2) * l ≡ monthDays (leapDay y) (natAbs month)
   days =
       let n = number in
-      subst (λ z. monthDays 0 (natAbs z) + boolByte (eqb (ofZ w64 z) 2) * l ≡ monthDays (leapDay y) (natAbs z)) (sym (n .1 .1 .1))
-      (sym (with-leap-day l (n .0) (n .1 .0) (n .1 .1 .0)) ∙ ap (λ l. monthDays l (n .0)) (a .leap-is))
+      ap (λ (z : ℤ). monthDays 0 (natAbs month) + boolByte (eqb (ofZ w64 z) 2) * l) (n .is)
+      ∙ sym (with-leap-day l (natAbs month) (n .low) (n .high)) ∙ ap (λ l. monthDays l (natAbs month)) (a .leap-is)
 
   small : monthDays (leapDay y) (natAbs month) ≤ 31
-  small =
-      let n = number in
-      subst (λ z. monthDays (leapDay y) (natAbs z) ≤ 31) (sym (n .1 .1 .1)) (length-le (leapDay y) (n .0) (leap-le y) (n .1 .0) (n .1 .1 .0))
+  small = length-le (leapDay y) (natAbs month) (leap-le y) (number .low) (number .high)
 
   sum : read len +ℤ toZ w64 (boolByte (eqb (ofZ w64 month) 2) * l) ≡ pos (monthDays (leapDay y) (natAbs month))
   sum =
@@ -95,6 +81,4 @@ module _ {year month len : ℤ} {y l : ℕ} (a : AcceptedMonth year month len y 
   length-is =
       let n = number in
       rw (a .year-inside, passed .0)
-      (ap value
-      (toZ-ofZ length-fits ∙ sum ∙ ap (λ z. pos (monthDays (leapDay y) (natAbs z))) (n .1 .1 .1)
-      ∙ sym (length-public y (n .0) (n .1 .0) (n .1 .1 .0)) ∙ (λ i. monthLength (a .year-is i) (sym (n .1 .1 .1) i))))
+      (ap value (toZ-ofZ length-fits ∙ sum ∙ sym (length-public y (natAbs month) (n .low) (n .high)) ∙ (λ i. monthLength (a .year-is i) (sym (n .is) i))))

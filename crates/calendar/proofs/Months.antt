@@ -1,5 +1,5 @@
 -- The months of a year: one law for what is shown month by month, their lengths and the days before them.
-use Prim.Native.Nat.{ℕ, zero, suc, _+_, _-_, _≤_, _<_}
+use Prim.Native.Nat.{ℕ, zero, suc, _+_, _-_, _*_, _≤_, _<_}
 use mathlib.Core.Path.{_≡_, refl, ap, subst}
 use mathlib.Core.Bool.{Bool, true, false, cond}
 use native.Mathlib.Omega.{arith}
@@ -7,8 +7,10 @@ use native.Mathlib.Decide.{decLt}
 use native.Mathlib.Nat.{le-refl, le-trans, add-zero, add-suc}
 use native.Mathlib.Numerals.{add-one}
 use mathlib.Core.List.{List, [], _∷_}
+use lib.Dec.{ltb}
 use lib.IntN.{pos, _+ℤ_}
 use lib.ListN.{getD, take}
+use mir.Val.{boolByte}
 use Rattle.calendar.specs.Gregorian.{leapYear, monthLengths, monthLength}
 use Rattle.calendar.specs.Count.{sum}
 use Rattle.calendar.specs.Closed.{baseYear, leapℕ, leapDay, monthDays, before, fromMarch}
@@ -113,6 +115,10 @@ march-rule m lo hi =
     (each-month (λ i. (getD days-from-march (i + 2 - 3) 0 ≡ fromMarch (i + 2)) × (fromMarch (i + 2) ≤ 337)) (omega arith) (m - 2) (omega arith) (omega arith))
 
 -- the leap day counts from March on
+pub before-leap : (l m : ℕ) → 1 ≤ m → m ≤ 12 → before 0 m + boolByte (ltb 2 m) * l ≡ before l m
+unfolding before monthDays
+before-leap l = each-month (λ m. before 0 m + boolByte (ltb 2 m) * l ≡ before l m) (omega arith)
+
 pub before-early : (l m : ℕ) → 1 ≤ m → m < 3 → before l m ≡ before 0 m
 unfolding before monthDays
 before-early l m lo hi = up-to (λ m. before l m ≡ before 0 m) 2 (omega arith) m lo (omega arith)

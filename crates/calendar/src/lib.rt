@@ -154,6 +154,7 @@ enum Checked {
     Refused(Refusal),
 }
 
+// Tests the year, the month and the day, in this order.
 fn check_date(year: i64, month: i64, day: i64) -> Checked
     ensures { λ r. ⌜ (checkedOutcome r ≡ ofDate year month day value) × CheckedInRange r ⌝ }
 {

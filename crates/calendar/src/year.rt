@@ -48,8 +48,5 @@ pub fn days_before_month(y: u32, m: u32) -> u32
     requires { ⌜ (1 ≤ m) × (m ≤ 12) ⌝ }
     ensures { λ r. ⌜ (r ≡ before (leapDay y) m) × (r ≤ 335) ⌝ }
 {
-    if m < 3 {
-        return days_before(m);
-    }
-    days_before(m) + leap_day(y)
+    days_before(m) + (m > 2) as u32 * leap_day(y)
 }

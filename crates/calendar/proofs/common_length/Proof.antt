@@ -5,35 +5,35 @@ use Rattle.calendar.specs.Checked.{commonLength}
 use mir.Val.{ofZ}
 use mir.Syntax.{w64}
 use lib.Dec.{lit<}
+use lib.IntN.{pos}
 use mathlib.Core.Logic.{⊎-elim, inl, inr}
 use mathlib.Core.Path.{_≡_}
 use Prim.Native.Nat.{ℕ, _<_, _^_}
 use Rattle.calendar.proofs.common_length.Statement.{statement}
 use Rattle.calendar.proofs.common_length.Tie as tie
 
+-- the month is the key k
+is : (c : tie.Start) (k : ℕ) → k < 2 ^ 63 → ofZ w64 (c .args .month) ≡ k → commonLength (pos k) ≡ commonLength (c .args .month)
+is c = at-key (c .args .month) (c .fits .month)
+
 returns : tie.Need-returns
 unfolding commonLength monthDays
 returns c = let s = c .before in
-    let is : (k : ℕ) → k < 2 ^ 63 → ofZ w64 (s .args .month) ≡ k → _ = at-key (s .args .month) (s .fits .month) in
-    ⊎-elim (is 1 (lit< tt)) (⊎-elim (is 3 (lit< tt)) (⊎-elim (is 5 (lit< tt)) (is 7 (lit< tt)))) (c .match .keys1)
+    ⊎-elim (is s 1 (lit< tt)) (⊎-elim (is s 3 (lit< tt)) (⊎-elim (is s 5 (lit< tt)) (is s 7 (lit< tt)))) (c .match .keys1)
 
 returns-2 : tie.Need-returns-2
 unfolding commonLength monthDays
 returns-2 c = let s = c .before in
-    let is : (k : ℕ) → k < 2 ^ 63 → ofZ w64 (s .args .month) ≡ k → _ = at-key (s .args .month) (s .fits .month) in
-    ⊎-elim (is 4 (lit< tt)) (⊎-elim (is 6 (lit< tt)) (⊎-elim (is 9 (lit< tt)) (is 11 (lit< tt)))) (c .match .keys2)
+    ⊎-elim (is s 4 (lit< tt)) (⊎-elim (is s 6 (lit< tt)) (⊎-elim (is s 9 (lit< tt)) (is s 11 (lit< tt)))) (c .match .keys2)
 
 returns-3 : tie.Need-returns-3
 unfolding commonLength monthDays
 returns-3 c = let s = c .before in
-    let is : (k : ℕ) → k < 2 ^ 63 → ofZ w64 (s .args .month) ≡ k → _ = at-key (s .args .month) (s .fits .month) in
-    ⊎-elim (is 8 (lit< tt)) (⊎-elim (is 10 (lit< tt)) (is 12 (lit< tt))) (c .match .keys3)
+    ⊎-elim (is s 8 (lit< tt)) (⊎-elim (is s 10 (lit< tt)) (is s 12 (lit< tt))) (c .match .keys3)
 
 returns-4 : tie.Need-returns-4
 unfolding commonLength monthDays
-returns-4 c = let s = c .before in
-    let is : (k : ℕ) → k < 2 ^ 63 → ofZ w64 (s .args .month) ≡ k → _ = at-key (s .args .month) (s .fits .month) in
-    is 2 (lit< tt) (c .match .keys4)
+returns-4 c = is (c .before) 2 (lit< tt) (c .match .keys4)
 
 returns-5 : tie.Need-returns-5
 returns-5 c = let s = c .before in

@@ -1,5 +1,6 @@
 use Rattle.refusal.specs.Outcome.{numberOutcome}
-use Rattle.calendar.proofs.Lengths.{AcceptedMonth, length-refused, leap-day-le, length-fits, length-is}
+use Rattle.calendar.proofs.Lengths.{AcceptedMonth, length-refused, length-fits, length-is}
+use Rattle.calendar.proofs.Leap.{tested-leap-le}
 use Rattle.calendar.specs.Checked.{commonLength}
 use Rattle.calendar.specs.Answers.{lastDayAnswer}
 use Rattle.calendar.specs.Range.{firstYear, lastYear}
@@ -8,9 +9,10 @@ use Rattle.refusal.specs.Numbers.{refusalNumber}
 use mir.Facts.{toZ-ofZ}
 use mathlib.Core.Path.{sym, ap, _∙_}
 use mir.Syntax.{w64}
-use mir.Val.{ofZ}
+use mir.Val.{ofZ, boolByte}
 use native.Mathlib.Omega.{arith}
 use lib.Dec.{eqb}
+use Prim.Native.Nat.{_*_, _≤_}
 use borrow.Author.Needs.{needs}
 use Rattle.calendar.proofs.last_day_of_month.Statement.{statement}
 use Rattle.calendar.proofs.last_day_of_month.Tie as tie
@@ -53,11 +55,14 @@ accepted c = let k = c .before .before .before .before .before in
 cast-t10 : tie.Need-cast-t10
 cast-t10 c = search needs
 
+small : (c : tie.After-leap-day) → boolByte (eqb (ofZ w64 (start c .args .month)) 2) * c .leap-day .result ≤ 1
+small c = tested-leap-le (eqb (ofZ w64 (start c .args .month)) 2) (c .leap-day .result) (c .leap-day .ensures .1)
+
 mul-t12 : tie.Need-mul-t12
-mul-t12 c = record { fits = omega (arith, leap-day-le (eqb (ofZ w64 (start c .args .month)) 2) (c .leap-day .result) (c .leap-day .ensures .1)) }
+mul-t12 c = record { fits = omega (arith, small c) }
 
 cast-t13 : tie.Need-cast-t13
-cast-t13 c = let l = leap-day-le (eqb (ofZ w64 (start c .args .month)) 2) (c .leap-day .result) (c .leap-day .ensures .1) in pos-fits (omega arith)
+cast-t13 c = let l = small c in pos-fits (omega arith)
 
 add-t14 : tie.Need-add-t14
 add-t14 c = length-fits (accepted c)
