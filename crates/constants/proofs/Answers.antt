@@ -8,13 +8,13 @@ use borrow.Author.Tests.{lt-ltb, le-ltb}
 use lib.IntN.{ℤ, pos, natAbs}
 use Rattle.refusal.specs.Outcome.{value, refused, refusedAt}
 use Rattle.constants.specs.declared.limits.Constants.{Constants}
-use Rattle.constants.specs.Difference.{apart, differs}
-use Rattle.constants.specs.Least.{at, none, leastBelow}
-use Rattle.constants.specs.Limits.{outsideLimits, endOutside, boundOutside}
+use Rattle.constants.specs.Difference.{deviceQuotient, apart, differs}
+use Rattle.constants.specs.Least.{at, none, leastBelow, NoneBelow}
+use Rattle.constants.specs.Limits.{lastEnd, lastBound, outsideLimits, endOutside, boundOutside}
 use Rattle.constants.specs.Answers.{difference, differenceAnswer, claimed, boundAnswer}
-use Rattle.constants.specs.Allowed.{Passed, exact, device, differsAt}
-use Rattle.constants.specs.Residues.{Differs, IsLeast}
-use Rattle.constants.proofs.Least.{NoneBelow, found}
+use Rattle.constants.specs.Allowed.{Passed, exact, device, DifferenceAt}
+use Rattle.constants.specs.Residues.{IsLeast}
+use Rattle.constants.proofs.Least.{finds-right}
 
 -- numbers outside their limits
 module _ (a b d m c k t end : ℤ) where
@@ -28,46 +28,49 @@ module _ (a b d m c k t end : ℤ) where
 
 -- numbers within them, and the search's result r below the end n
 module _ {a b d m c k t end last : ℤ} {q : Constants} {n : ℕ} (p : Passed a b d m c k t end last q n) where
-  differs-is : (i : ℕ) → differsAt q i ≡ difference a b d m c k t i
-  unfolding difference
-  differs-is i = ap (λ (q : Constants). differsAt q i) (p .constants)
+  abbrev test : ℕ → Bool
+  test = difference deviceQuotient a b d m c k t
 
-  module _ {r : ℕ} (h : IsLeast (Differs q) n r) where
-    none-before : NoneBelow (difference a b d m c k t) r
+  test-is : (i : ℕ) → differs (q .t) (exact q) (device q) i ≡ test i
+  unfolding difference
+  test-is i = ap (λ (q : Constants). differs (q .t) (exact q) (device q) i) (p .q-is)
+
+  module _ {r : ℕ} (h : IsLeast (DifferenceAt q) n r) where
+    none-before : NoneBelow test r
     unfolding differs
-    none-before i lt = sym (differs-is i) ∙ go (decLt (q .t) (apart (exact q i) (device q i)))
+    none-before i lt = sym (test-is i) ∙ go (decLt (q .t) (apart (exact q i) (device q i)))
       where
-        go : Dec (Differs q i) → differsAt q i ≡ false
+        go : Dec (DifferenceAt q i) → differs (q .t) (exact q) (device q) i ≡ false
         go (yes y) = absurd (h .before i lt y)
         go (no x) = le-ltb (q .t) (apart (exact q i) (device q i)) (omega arith)
 
-    least-at : r < n → leastBelow (difference a b d m c k t) (natAbs end) ≡ at r
+    least-at : r < n → leastBelow test (natAbs end) ≡ at r
     unfolding differs
     least-at lt =
-        found (difference a b d m c k t) (natAbs end) (at r)
-        (record { below = omega (arith, p .end-is); passes = sym (differs-is r) ∙ lt-ltb _ _ (h .found lt); least = none-before })
+        finds-right test (natAbs end) (at r)
+        (record { below = omega (arith, p .end-is); passes = sym (test-is r) ∙ lt-ltb _ _ (h .here lt); least = none-before })
 
-    least-none : n ≤ r → leastBelow (difference a b d m c k t) (natAbs end) ≡ none
-    least-none le = found (difference a b d m c k t) (natAbs end) none (λ i lt. none-before i (omega (arith, p .end-is)))
+    least-none : n ≤ r → leastBelow test (natAbs end) ≡ none
+    least-none le = finds-right test (natAbs end) none (λ i lt. none-before i (omega (arith, p .end-is)))
 
 -- the search
-module _ {a b d m c k t end : ℤ} {q : Constants} {n : ℕ} (p : Passed a b d m c k t end (pos 4294967295) q n) {r : ℕ} (h : IsLeast (Differs q) n r) where
+module _ {a b d m c k t end : ℤ} {q : Constants} {n : ℕ} (p : Passed a b d m c k t end (pos lastEnd) q n) {r : ℕ} (h : IsLeast (DifferenceAt q) n r) where
   pub search-at : r < n → value (at r) ≡ differenceAnswer a b d m c k t end
   unfolding differenceAnswer
-  search-at lt = rw (p .passed) (ap value (sym (least-at p h lt)))
+  search-at lt = rw (p .inside) (ap value (sym (least-at p h lt)))
 
   pub search-none : n ≤ r → value none ≡ differenceAnswer a b d m c k t end
   unfolding differenceAnswer
-  search-none le = rw (p .passed) (ap value (sym (least-none p h le)))
+  search-none le = rw (p .inside) (ap value (sym (least-none p h le)))
 
 -- the claim
-module _ {a b d m c k t bound : ℤ} {q : Constants} {n : ℕ} (p : Passed a b d m c k t bound (pos 4294967294) q n) {r : ℕ} (h : IsLeast (Differs q) n r) where
+module _ {a b d m c k t bound : ℤ} {q : Constants} {n : ℕ} (p : Passed a b d m c k t bound (pos lastBound) q n) {r : ℕ} (h : IsLeast (DifferenceAt q) n r) where
   pub claim-below : r < n → refusedAt 10 r ≡ boundAnswer a b d m c k t bound
   unfolding boundAnswer
-  claim-below lt = rw (p .passed, least-at p h lt)
+  claim-below lt = rw (p .inside, least-at p h lt)
 
-  pub claim-here : n ≤ r → {here : Bool} → here ≡ differsAt q n → claimed none here ≡ boundAnswer a b d m c k t bound
+  pub claim-here : n ≤ r → {here : Bool} → here ≡ differs (q .t) (exact q) (device q) n → claimed none here ≡ boundAnswer a b d m c k t bound
   unfolding boundAnswer
   claim-here le {here} e =
-      let i : here ≡ difference a b d m c k t (natAbs bound) = e ∙ differs-is p n ∙ ap (difference a b d m c k t) (p .end-is) in
-      rw (p .passed, least-none p h le, ← i)
+      let i : here ≡ test p (natAbs bound) = e ∙ test-is p n ∙ ap (test p) (p .end-is) in
+      rw (p .inside, least-none p h le, ← i)

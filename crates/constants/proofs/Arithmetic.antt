@@ -1,8 +1,9 @@
 -- A quotient against a number as a product, two lines, and a period of a quotient.
 use mathlib.Core.Path.{_≡_, ap, _∙_}
 use Prim.Native.Nat.{ℕ, suc, _+_, _-_, _*_, _/_, _%_, _^_, _≤_, _<_}
-use native.Mathlib.Nat.{le-div-iff-mul-le, lt-div-mul-add, div-mul-le-self, mul-le-mul-right, lt-of-mul-lt-mul-right, add-mul, mul-add, suc-mul, one-mul, add-mul-div-left, mul-left-comm, le-trans}
+use native.Mathlib.Nat.{le-div-iff-mul-le, lt-div-mul-add, div-mul-le-self, mul-le-mul-right, lt-of-mul-lt-mul-right, add-mul, mul-add, suc-mul, one-mul, add-mul-div-left, mul-left-comm}
 use native.Mathlib.Numerals.{add-one}
+use native.Mathlib.Decide.{decLt}
 use native.Mathlib.Omega.{arith}
 use lib.Dec.{lit<}
 use lib.Pow.{shl-exact}
@@ -24,26 +25,23 @@ module _ (x e t p : ℕ) where
   pub above-quotient-back : x + t * p + 1 ≤ e * p → x / p + t < e
   above-quotient-back h = lt-of-mul-lt-mul-right p (omega (arith, add-mul (x / p) t p, div-mul-le-self x p))
 
--- two lines in j, of which the second gains s in each step
-module _ (u v x y s j : ℕ) (e : y ≡ v + s) where
-  pub gained : u + v * j ≤ x + y * j → u - x ≤ s * j
-  gained h = omega (arith, ap (λ (z : ℕ). z * j) e, add-mul v s j)
+-- two lines in j: where the second is up with the first, it has gained what it lacked at 0
+module _ (u v x y j : ℕ) where
+  pub gained : u + v * j ≤ x + y * j → u - x ≤ (y - v) * j
+  gained h = go (decLt y v)
+    where
+      go : Dec (y < v) → u - x ≤ (y - v) * j
+      go (yes l) = let le : y ≤ v = omega arith in omega (arith, mul-le-mul-right j le)
+      go (no l) = let e : y ≡ v + (y - v) = omega arith in omega (arith, ap (λ (z : ℕ). z * j) e, add-mul v (y - v) j)
 
-  pub gained-back : u - x ≤ s * j → u + v * j ≤ x + y * j
-  gained-back h = omega (arith, ap (λ (z : ℕ). z * j) e, add-mul v s j)
-
--- and of which it gains nothing
-pub not-gained : (u v x y j : ℕ) → y ≤ v → u + v * j ≤ x + y * j → u ≤ x
-not-gained u v x y j le h = omega (arith, mul-le-mul-right j le)
+  pub gained-back : v ≤ y → u - x ≤ (y - v) * j → u + v * j ≤ x + y * j
+  gained-back le h = let e : y ≡ v + (y - v) = omega arith in omega (arith, ap (λ (z : ℕ). z * j) e, add-mul v (y - v) j)
 
 pub period : (a b d r j : ℕ) → 0 < d → (a * (r + d * j) + b) / d ≡ (a * r + b) / d + a * j
 period a b d r j pos = ap (λ (z : ℕ). z / d) shape ∙ add-mul-div-left (a * r + b) (a * j) pos
   where
     shape : a * (r + d * j) + b ≡ a * r + b + d * (a * j)
     shape = omega (arith, mul-add a r (d * j), mul-left-comm a d j)
-
-pub div-mono : (x y d : ℕ) → 0 < d → x ≤ y → x / d ≤ y / d
-div-mono x y d pos h = le-div-iff-mul-le pos .1 (le-trans (div-mul-le-self x d) h)
 
 -- `1 << k` at 64 bits is 2 ^ k
 pub one-shifted : (k : ℕ) → k < 64 → (1 * 2 ^ k) % 2 ^ 64 ≡ 2 ^ k

@@ -1,190 +1,124 @@
--- A side of the difference at r + d * j goes by the gap of r, and what follows for the least difference.
-use mathlib.Core.Path.{_≡_, refl, ap, _∙_, subst}
-use mathlib.Core.Bool.{Bool, true, false, not}
-use mathlib.Core.Logic.{_⊎_, inl, inr, ⊎-elim}
-use Prim.Native.Nat.{ℕ, _+_, _-_, _*_, _/_, _%_, _^_, _≤_, _<_, min}
-use native.Mathlib.Nat.{mod-lt, mod-add-div, mul-le-mul-left, eq-zero-or-pos, lt-mul-div-succ, le-trans}
+-- What the search makes of the gaps of the residues on one side.
+use mathlib.Core.Path.{_≡_, refl, ap, subst}
+use Prim.Native.Nat.{ℕ, zero, suc, _+_, _-_, _*_, _/_, _%_, _^_, _≤_, _<_, min}
+use native.Mathlib.Nat.{mod-lt, mod-le, mod-add-div, mod-eq-of-lt, div-eq-of-lt, add-mul-mod-self-left, add-mul-div-left, zero-add, mul-le-mul-left, mul-le-mul-right, mul-div-le, lt-mul-div-succ}
 use native.Mathlib.Decide.{decLt}
-use native.Mathlib.Omega.{arith}
-use lib.Pow.{pow-pos}
-use Rattle.constants.specs.declared.limits.Constants.{Constants}
-use Rattle.constants.specs.declared.search.Question.the-variants.{Residues, Periods}
-use Rattle.constants.specs.Difference.{exactQuotient, deviceQuotient}
-use Rattle.constants.specs.Allowed.{Allowed, exact, device}
-use Rattle.constants.specs.Residues.{Differs, IsLeast, OnSide, need, have, pull, gap, SomeGap, Reached, FirstReached}
-use Rattle.constants.proofs.Arithmetic.{below-quotient, below-quotient-back, above-quotient, above-quotient-back, gained, gained-back, not-gained, period, div-mono}
-use Rattle.constants.proofs.Bounds.{gap-lt}
+use native.Mathlib.Omega.{arith, by-contra}
+use Rattle.constants.specs.declared.search.Side.{Side}
+use Rattle.constants.specs.Stairs.{LeastValue}
+use Rattle.constants.specs.Residues.{IsLeast, Narrow, gap, SomeGap, Closed}
+use Rattle.constants.proofs.Sides.{first-gap}
 
--- a difference is on one of the two sides
-side-differs : (q : Constants) (above : Bool) (n : ℕ) → OnSide q above n → Differs q n
-unfolding OnSide
-side-differs q true n h = omega arith
-side-differs q false n h = omega arith
+module _ (s : Side) (bound : ℕ) where
+  -- whether a gap is within the bound, by the least gap above it
+  module _ {end r : ℕ} (l : LeastValue (λ (x : ℕ). gap s x - bound) end r) where
+    pub some-within : r ≡ 0 → SomeGap s end bound
+    some-within e = (l .taken .0, l .taken .1, omega (arith, l .taken .2))
 
-differs-side : (q : Constants) (above : Bool) (n : ℕ) → Differs q n → OnSide q above n ⊎ OnSide q (not above) n
-unfolding OnSide
-differs-side q above n h = go above (decLt (exact q n + q .t) (device q n))
-  where
-    go : (above : Bool) → Dec (exact q n + q .t < device q n) → OnSide q above n ⊎ OnSide q (not above) n
-    go true (yes p) = inl p
-    go true (no p) = inr (omega arith)
-    go false (yes p) = inr p
-    go false (no p) = inl (omega arith)
+    pub none-within : (r ≡ 0 → ⊥) → SomeGap s end bound → ⊥
+    none-within ne z = omega (arith, l .least (z .0) (z .1), z .2)
 
-module _ (q : Constants) (w : Allowed q) where
-  next-period : (r j : ℕ) → exact q (r + q .d * j) ≡ exact q r + q .a * j
-  unfolding exactQuotient
-  next-period r j = period (q .a) (q .b) (q .d) r j (w .d-lo)
-
-  -- the side at r + d * j, as two lines in j
-  side-lines : (above : Bool) (r j : ℕ) → OnSide q above (r + q .d * j) → need q above r + pull q (not above) * j ≤ have q above r + pull q above * j
-  unfolding OnSide need have pull deviceQuotient
-  side-lines true r j h =
-      let g : (exact q (r + q .d * j) + q .t + 1) * 2 ^ q .k ≤ q .m * (r + q .d * j) + q .c = below-quotient _ _ _ _ (pow-pos (q .k)) h in
-      omega (arith, rw next-period at g)
-  side-lines false r j h =
-      let g : q .m * (r + q .d * j) + q .c + q .t * 2 ^ q .k + 1 ≤ exact q (r + q .d * j) * 2 ^ q .k = above-quotient _ _ _ _ (pow-pos (q .k)) h in
-      omega (arith, rw next-period at g)
-
-  lines-side : (above : Bool) (r j : ℕ) → need q above r + pull q (not above) * j ≤ have q above r + pull q above * j → OnSide q above (r + q .d * j)
-  unfolding OnSide need have pull deviceQuotient
-  lines-side true r j h = below-quotient-back _ _ _ _ (pow-pos (q .k)) (rw next-period (omega arith))
-  lines-side false r j h = above-quotient-back _ _ _ _ (rw next-period (omega arith))
-
-  -- at a residue itself the side goes by the gap alone
-  no-period : (r : ℕ) → r + q .d * 0 ≡ r
-  no-period r = omega arith
-
-  side-no-gap : (above : Bool) (r : ℕ) → OnSide q above r → gap q above r ≤ 0
-  unfolding gap
-  side-no-gap above r h = let g = side-lines above r 0 (rw no-period h) in omega arith
-
-  no-gap-side : (above : Bool) (r : ℕ) → gap q above r ≤ 0 → OnSide q above r
-  unfolding gap
-  no-gap-side above r h = rw no-period at (lines-side above r 0 (omega arith))
-
-  -- where the side gains nothing, it is there at r if it is at any r + d * j
-  side-back : (above : Bool) (r j : ℕ) → pull q above ≤ pull q (not above) → OnSide q above (r + q .d * j) → OnSide q above r
-  unfolding gap
-  side-back above r j le h =
-      let g : need q above r ≤ have q above r = not-gained _ _ _ _ j le (side-lines above r j h) in
-      no-gap-side above r (omega arith)
-
-  -- the least difference below `end`, by the least residue on each side
-  pub both-sides : (end x n : ℕ) → IsLeast (λ (r : ℕ). gap q true r ≤ 0) end x → IsLeast (λ (r : ℕ). gap q false r ≤ 0) x n → IsLeast (Differs q) end n
-  both-sides end x n a b =
-      record {
-        within = omega (arith, a .within, b .within);
-        before = λ r lt v. ⊎-elim (λ s. a .before r (omega (arith, b .within)) (side-no-gap true r s)) (λ s. b .before r lt (side-no-gap false r s)) (differs-side q true r v);
-        found = λ lt. go lt (decLt n x);
-      }
+  -- the least residue with such a gap: there is one up to it, and none before it
+  pub least-residue : (end low : ℕ) → low < end → (SomeGap s low bound → ⊥) → SomeGap s (low + 1) bound → IsLeast (λ (x : ℕ). gap s x ≤ bound) end low
+  least-residue end low lt free z =
+      record { within = omega arith; before = λ n lt g. free (n, lt, g); here = λ _. go (decLt (z .0) low) }
     where
-      go : n < end → Dec (n < x) → Differs q n
-      go lt (yes y) = side-differs q false n (no-gap-side false n (b .found y))
-      go lt (no f) =
-          let e : x ≡ n = omega (arith, b .within) in
-          side-differs q true n (no-gap-side true n (subst (λ (r : ℕ). gap q true r ≤ 0) e (a .found (omega arith))))
+      go : Dec (z .0 < low) → gap s low ≤ bound
+      go (yes y) = absurd (free (z .0, y, z .2))
+      go (no f) = let e : z .0 ≡ low = omega (arith, z .1) in subst (λ (x : ℕ). gap s x ≤ bound) e (z .2)
 
-  -- there is no difference below d
-  module _ (none : (n : ℕ) → n < q .d → Differs q n → ⊥) where
-    split : (n : ℕ) → n % q .d + q .d * (n / q .d) ≡ n
-    split n = mod-add-div n (q .d)
+-- the fewest periods that close a gap
+module _ (nearest gain end : ℕ) where
+  pub none-needed : nearest ≡ 0 → IsLeast (λ (j : ℕ). nearest ≤ gain * j) end 0
+  none-needed e = record { within = omega arith; before = λ j lt. absurd (omega arith); here = λ _. omega arith }
 
-    -- a side that gains nothing is nowhere
-    nowhere : (above : Bool) → pull q above ≤ pull q (not above) → (n : ℕ) → OnSide q above n → ⊥
-    nowhere above le n v =
-        none (n % q .d) (mod-lt n (w .d-lo))
-        (side-differs q above _ (side-back above (n % q .d) (n / q .d) le (rw split v)))
+  pub none-enough : (nearest ≡ 0 → ⊥) → gain ≡ 0 → IsLeast (λ (j : ℕ). nearest ≤ gain * j) end end
+  none-enough ne z =
+      record { within = omega arith; before = λ j lt le. omega (arith, ap (λ (g : ℕ). g * j) z); here = λ lt. absurd (omega arith) }
 
-    -- and neither is a difference, where no side gains
-    pub never : pull q true ≡ pull q false → (n : ℕ) → Differs q n → ⊥
-    never e n v = ⊎-elim (nowhere true (omega arith) n) (nowhere false (omega arith) n) (differs-side q true n v)
+  pub rounded-up : (nearest ≡ 0 → ⊥) → (gain ≡ 0 → ⊥) → IsLeast (λ (j : ℕ). nearest ≤ gain * j) end (min ((nearest - 1) / gain + 1) end)
+  rounded-up ne nz =
+      record { within = omega arith; before = before; here = λ lt. enough (omega arith) }
+    where
+      gain-pos : 0 < gain
+      gain-pos = omega arith
 
-    -- the side gains in each period
-    module _ (above : Bool) (gain : ℕ) (gains : pull q above ≡ pull q (not above) + gain) where
-      other-nowhere : (n : ℕ) → OnSide q (not above) n → ⊥
-      other-nowhere = go above gains
+      before : (j : ℕ) → j < min ((nearest - 1) / gain + 1) end → nearest ≤ gain * j → ⊥
+      before j lt le =
+          let few : j ≤ (nearest - 1) / gain = omega arith in
+          omega (arith, mul-le-mul-left gain few, mul-div-le (nearest - 1) gain)
+
+      enough : (nearest - 1) / gain + 1 ≡ min ((nearest - 1) / gain + 1) end → nearest ≤ gain * min ((nearest - 1) / gain + 1) end
+      enough e = omega (arith, lt-mul-div-succ (nearest - 1) gain-pos, ap (λ (j : ℕ). gain * j) e)
+
+-- the least n whose residue's gap is closed, by the fewest periods j that close the nearest gap
+module _ {s : Side} (w : Narrow s) {gain end first nearest j : ℕ} (gain-hi : gain < 2 ^ 59) (some : 0 < end) (first-is : first ≡ min (s .d) end)
+    (least : LeastValue (λ (x : ℕ). gap s x - 0) first nearest) (fewest : IsLeast (λ (j : ℕ). nearest ≤ gain * j) end j) where
+  split : (n : ℕ) → n % s .d + s .d * (n / s .d) ≡ n
+  split n = mod-add-div n (s .d)
+
+  -- n has j periods before it, if its residue's gap is closed
+  periods-before : (n : ℕ) → n < end → Closed s gain n → j ≤ n / s .d
+  periods-before n lt c =
+      let small : n % s .d < first = omega (arith, mod-lt n (w .d-lo), mod-le n (s .d)) in
+      by-contra _ _ (λ h. fewest .before (n / s .d) h (omega (arith, least .least (n % s .d) small)))
+
+  pub none-closed : end ≤ s .d * j → IsLeast (Closed s gain) end end
+  none-closed le =
+      record {
+        within = omega arith;
+        before = λ n lt c. omega (arith, split n, mul-le-mul-left (s .d) (periods-before n lt c));
+        here = λ lt. absurd (omega arith);
+      }
+
+  module _ (lt : s .d * j < end) where
+    enough : nearest ≤ gain * j
+    enough = fewest .here (omega (arith, mul-le-mul-right j (w .d-lo)))
+
+    pub some-closed : SomeGap s (first) (gain * j)
+    some-closed = let t = least .taken in (t .0, t .1, omega (arith, t .2, enough))
+
+    -- one period less would not do
+    pub closing-lt : gain * j < 2 ^ 60
+    closing-lt = go j refl
+      where
+        nearest-lt : nearest < 2 ^ 59
+        nearest-lt = omega (arith, least .least 0 (omega (arith, w .d-lo)), first-gap w, w .need-lt)
+
+        go : (i : ℕ) → j ≡ i → gain * j < 2 ^ 60
+        go zero e = omega (arith, ap (λ (i : ℕ). gain * i) e)
+        go (suc i) e =
+            let l : gain * i < nearest = by-contra _ _ (λ h. fewest .before i (omega arith) (omega arith)) in
+            let e' : j ≡ i + 1 = omega arith in
+            omega (arith, nearest-lt, ap (λ (i : ℕ). gain * i) e')
+
+    -- and r is the least residue whose gap j periods close
+    module _ (r : ℕ) (residue : IsLeast (λ (x : ℕ). gap s x ≤ gain * j) (first) r) where
+      residue-lt : r < first
+      residue-lt = by-contra _ _ (λ h. residue .before (some-closed .0) (omega (arith, some-closed .1)) (some-closed .2))
+
+      none-before : (n : ℕ) → n < min (r + s .d * j) end → Closed s gain n → ⊥
+      none-before n lt c = go (decLt j (n / s .d))
         where
-          go : (o : Bool) → pull q o ≡ pull q (not o) + gain → (n : ℕ) → OnSide q (not o) n → ⊥
-          go true e = nowhere false (omega arith)
-          go false e = nowhere true (omega arith)
+          from : j ≤ n / s .d
+          from = periods-before n (omega arith) c
 
-      -- so a difference at n is one of that side, and the periods before n have closed the gap of its residue
-      differs-gap : (n : ℕ) → Differs q n → gap q above (n % q .d) ≤ gain * (n / q .d)
-      unfolding gap
-      differs-gap n v =
-          ⊎-elim
-          (λ s. gained _ _ _ _ gain (n / q .d) gains (side-lines above (n % q .d) (n / q .d) (rw split s)))
-          (λ s. absurd (other-nowhere n s))
-          (differs-side q above n v)
+          go : Dec (j < n / s .d) → ⊥
+          go (yes y) = omega (arith, split n, mul-le-mul-left (s .d) y, residue-lt)
+          go (no f) =
+              let e : n / s .d ≡ j = omega (arith, from) in
+              residue .before (n % s .d) (omega (arith, split n, ap (λ (i : ℕ). s .d * i) e)) (subst (λ (i : ℕ). gap s (n % s .d) ≤ gain * i) e c)
 
-      gap-differs : (r j : ℕ) → gap q above r ≤ gain * j → Differs q (r + q .d * j)
-      unfolding gap
-      gap-differs r j h = side-differs q above _ (lines-side above r j (gained-back _ _ _ _ gain j gains h))
+      closed-here : Closed s gain (r + s .d * j)
+      closed-here =
+          let small : r < s .d = omega (arith, residue-lt) in
+          rw (add-mul-mod-self-left r (s .d) j, mod-eq-of-lt small, add-mul-div-left r j (w .d-lo), div-eq-of-lt small, zero-add)
+          (residue .here residue-lt)
 
-      -- `most` periods close no gap, and are all that there are before `end`, or more than any gap needs
-      pub none-closed : (end : ℕ) → 0 < gain → (SomeGap q above (q .d) (gain * min (end / q .d) (2 ^ 59 / gain + 1)) → ⊥) → IsLeast (Differs q) end end
-      none-closed end pos f =
+      pub first-closed : IsLeast (Closed s gain) end (min (r + s .d * j) end)
+      first-closed =
           record {
             within = omega arith;
-            before = λ n lt v. f (n % q .d, mod-lt n (w .d-lo), enough n lt v (decLt (end / q .d) (2 ^ 59 / gain + 1)));
-            found = λ h. absurd (omega arith);
+            before = none-before;
+            here = λ lt. let e : r + s .d * j ≡ min (r + s .d * j) end = omega arith in subst (Closed s gain) e closed-here;
           }
-        where
-          enough : (n : ℕ) → n < end → Differs q n → Dec (end / q .d < 2 ^ 59 / gain + 1) → gap q above (n % q .d) ≤ gain * min (end / q .d) (2 ^ 59 / gain + 1)
-          enough n lt v (yes y) =
-              let i : n / q .d ≤ min (end / q .d) (2 ^ 59 / gain + 1) = omega (arith, div-mono n end (q .d) (w .d-lo) (omega arith)) in
-              le-trans (differs-gap n v) (mul-le-mul-left gain i)
-          enough n lt v (no y) =
-              let e : min (end / q .d) (2 ^ 59 / gain + 1) ≡ 2 ^ 59 / gain + 1 = omega arith in
-              omega (arith, gap-lt w (mod-lt n (w .d-lo)) above, lt-mul-div-succ (2 ^ 59) pos, ap (λ (x : ℕ). gain * x) e)
-
-      -- j periods are the fewest that close a gap, and r is the least residue of which they do
-      module _ (end most j : ℕ) (j-pos : 0 < j) (t : FirstReached (Reached q above (Periods gain)) most j)
-          (r : ℕ) (least : IsLeast (λ (r : ℕ). gap q above r ≤ gain * j) (q .d) r) where
-        residue-lt : r < q .d
-        residue-lt = go (decLt r (q .d))
-          where
-            go : Dec (r < q .d) → r < q .d
-            go (yes y) = y
-            go (no f) = let z = t .good j-pos in absurd (least .before (z .0) (omega (arith, z .1)) (z .2))
-
-        none-before : (n : ℕ) → n < r + q .d * j → Differs q n → ⊥
-        none-before n lt v = go (n / q .d) refl (eq-zero-or-pos (n / q .d)) (decLt (n / q .d) j) (decLt j (n / q .d))
-          where
-            go : (i : ℕ) → n / q .d ≡ i → (i ≡ 0) ⊎ (0 < i) → Dec (i < j) → Dec (j < i) → ⊥
-            go i e (inl z) d d' = none n (omega (arith, split n, mod-lt n (w .d-lo), ap (λ (x : ℕ). q .d * x) (e ∙ z))) v
-            go i e (inr p) (yes y) d' = t .before i p y (n % q .d, mod-lt n (w .d-lo), subst (λ (x : ℕ). gap q above (n % q .d) ≤ gain * x) e (differs-gap n v))
-            go i e (inr p) (no f) (yes y) = omega (arith, split n, ap (λ (x : ℕ). q .d * x) e, mul-le-mul-left (q .d) y, least .within)
-            go i e (inr p) (no f) (no f') =
-                let e' : n / q .d ≡ j = omega arith in
-                least .before (n % q .d) (omega (arith, split n, ap (λ (x : ℕ). q .d * x) e')) (subst (λ (x : ℕ). gap q above (n % q .d) ≤ gain * x) e' (differs-gap n v))
-
-        pub first-closed : IsLeast (Differs q) end (min (r + q .d * j) end)
-        first-closed =
-            record {
-              within = omega arith;
-              before = λ n lt. none-before n (omega arith);
-              found = λ lt. let e : r + q .d * j ≡ min (r + q .d * j) end = omega arith in
-                  subst (Differs q) e (gap-differs r j (least .found residue-lt));
-            }
-
--- the least residue, by the fewest residues among which there is one
-module _ (q : Constants) (above : Bool) (bound end x : ℕ) (t : FirstReached (Reached q above (Residues bound)) end x) where
-  pub no-residue : x ≡ 0 → IsLeast (λ (r : ℕ). gap q above r ≤ bound) end end
-  no-residue e = record { within = omega arith; before = λ n lt g. t .none e (n, lt, g); found = λ h. absurd (omega arith) }
-
-  pub last-residue : (x ≡ 0 → ⊥) → IsLeast (λ (r : ℕ). gap q above r ≤ bound) end (x - 1)
-  last-residue ne = record { within = omega (arith, t .most); before = earlier; found = λ _. here (t .good (omega arith)) }
-    where
-      earlier : (n : ℕ) → n < x - 1 → gap q above n ≤ bound → ⊥
-      earlier n lt g = t .before (x - 1) (omega arith) (omega arith) (n, lt, g)
-
-      here : SomeGap q above x bound → gap q above (x - 1) ≤ bound
-      here z = go (decLt (z .0) (x - 1))
-        where
-          go : Dec (z .0 < x - 1) → gap q above (x - 1) ≤ bound
-          go (yes y) = absurd (earlier (z .0) y (z .2))
-          go (no f) =
-              let e : z .0 ≡ x - 1 = omega (arith, z .1) in
-              subst (λ (r : ℕ). gap q above r ≤ bound) e (z .2)

@@ -6,23 +6,13 @@ use mathlib.Core.Logic.{_↔_}
 use native.Mathlib.Decide.{decLt}
 use native.Mathlib.Omega.{arith}
 use Rattle.numbers.proofs.Integers.{no-both}
-use Rattle.constants.specs.Least.{Found, at, none, orElse, leastBelow}
+use Rattle.constants.specs.Least.{Found, at, none, orElse, leastBelow, NoneBelow, FirstAt}
 
 module _ (test : ℕ → Bool) where
-  -- no n below l passes the test
-  abbrev pub NoneBelow : (l : ℕ) → Type 0
-  NoneBelow l = (n : ℕ) → n < l → test n ≡ false
-
-  -- n is below l and passes the test, and no smaller one does
-  pub record FirstAt (l n : ℕ) : Type 0 where
-    pub below : n < l
-    pub passes : test n ≡ true
-    pub least : NoneBelow n
-
   -- what the search below l is to find
   abbrev pub Right : (l : ℕ) (f : Found) → Type 0
-  Right l (at n) = FirstAt l n
-  Right l none = NoneBelow l
+  Right l (at n) = FirstAt test l n
+  Right l none = NoneBelow test l
 
   -- there is one right answer
   both : {A : Type 0} (n : ℕ) → test n ≡ true → test n ≡ false → A
@@ -54,15 +44,15 @@ module _ (test : ℕ → Bool) where
           last n h (yes y) = r n y
           last n h (no x) = let i : n ≡ l = omega arith in ap test i ∙ e
 
-  pub found : (l : ℕ) (f : Found) → Right l f → leastBelow test l ≡ f
-  found l f r = one-right l (leastBelow test l) f (finds l) r
+  pub finds-right : (l : ℕ) (f : Found) → Right l f → leastBelow test l ≡ f
+  finds-right l f r = one-right l (leastBelow test l) f (finds l) r
 
   -- so it finds n exactly when n is the first that passes, and nothing exactly when none passes
-  pub finds-at : (l n : ℕ) → (leastBelow test l ≡ at n) ↔ FirstAt l n
-  finds-at l n = (λ e. subst (Right l) e (finds l), found l (at n))
+  pub finds-at : (l n : ℕ) → (leastBelow test l ≡ at n) ↔ FirstAt test l n
+  finds-at l n = (λ e. subst (Right l) e (finds l), finds-right l (at n))
 
-  pub finds-none : (l : ℕ) → (leastBelow test l ≡ none) ↔ NoneBelow l
-  finds-none l = (λ e. subst (Right l) e (finds l), found l none)
+  pub finds-none : (l : ℕ) → (leastBelow test l ≡ none) ↔ NoneBelow test l
+  finds-none l = (λ e. subst (Right l) e (finds l), finds-right l none)
 
   -- a longer search finds the same
   pub least-stays : (k l n : ℕ) → leastBelow test k ≡ at n → k ≤ l → leastBelow test l ≡ at n

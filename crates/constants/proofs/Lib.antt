@@ -1,10 +1,10 @@
 pub mod Arithmetic
 pub mod Bounds
-pub mod Decides
 pub mod Euclid
-pub mod Reaches
-pub mod Gaps
+pub mod Turns
 pub mod Sides
+pub mod Gaps
+pub mod Difference
 pub mod Signed
 pub mod Least
 pub mod Answers

@@ -1,34 +1,34 @@
 -- Only for the proofs: allowed constants as natural numbers, and what was defined of plain numbers, of a set of them.
-use Prim.Native.Nat.{ℕ, _≤_}
+use Prim.Native.Nat.{ℕ, _≤_, _<_}
 use lib.IntN.{ℤ, pos, natAbs}
-use mathlib.Core.Bool.{Bool, true, false, _||_}
+use mathlib.Core.Bool.{true, false, _||_}
 use mathlib.Core.Path.{_≡_}
 use Rattle.numbers.specs.Range.{outside}
 use Rattle.constants.specs.declared.limits.Constants.{Constants}
 use Rattle.constants.specs.declared.limits.Tested.{Tested}
 use Rattle.constants.specs.declared.limits.Tested.the-variants.{Inside, Outside}
-use Rattle.constants.specs.Limits.{outsideLimits}
-use Rattle.constants.specs.Difference.{exactQuotient, deviceQuotient, differs}
+use Rattle.constants.specs.Limits.{firstA, lastA, lastB, firstD, lastD, lastM, lastC, lastK, lastT, outsideLimits}
+use Rattle.constants.specs.Difference.{exactQuotient, deviceQuotient, apart}
 
 abbrev pub constantsOf : (a b d m c k t : ℤ) → Constants
 constantsOf a b d m c k t =
     record { a = natAbs a; b = natAbs b; d = natAbs d; m = natAbs m; c = natAbs c; k = natAbs k; t = natAbs t }
 
 pub record Allowed (q : Constants) : Type 0 where
-  pub a-lo : 1 ≤ q .a
-  pub a-hi : q .a ≤ 1023
-  pub b-hi : q .b ≤ 1023
-  pub d-lo : 1 ≤ q .d
-  pub d-hi : q .d ≤ 1048575
-  pub m-hi : q .m ≤ 4294967295
-  pub c-hi : q .c ≤ 4294967295
-  pub k-hi : q .k ≤ 47
-  pub t-hi : q .t ≤ 255
+  pub a-lo : firstA ≤ q .a
+  pub a-hi : q .a ≤ lastA
+  pub b-hi : q .b ≤ lastB
+  pub d-lo : firstD ≤ q .d
+  pub d-hi : q .d ≤ lastD
+  pub m-hi : q .m ≤ lastM
+  pub c-hi : q .c ≤ lastC
+  pub k-hi : q .k ≤ lastK
+  pub t-hi : q .t ≤ lastT
 
 -- the tested numbers are allowed: the constants and the end, which is at most `last`, as natural numbers
 pub record Passed (a b d m c k t end last : ℤ) (q : Constants) (n : ℕ) : Type 0 where
-  pub passed : (outsideLimits a b d m c k t || outside (pos 0) last end) ≡ false
-  pub constants : q ≡ constantsOf a b d m c k t
+  pub inside : (outsideLimits a b d m c k t || outside (pos 0) last end) ≡ false
+  pub q-is : q ≡ constantsOf a b d m c k t
   pub allowed : Allowed q
   pub end-is : n ≡ natAbs end
   pub end-le : n ≤ natAbs last
@@ -44,5 +44,6 @@ exact q n = exactQuotient (q .a) (q .b) (q .d) n
 abbrev pub device : Constants → ℕ → ℕ
 device q n = deviceQuotient (q .m) (q .c) (q .k) n
 
-abbrev pub differsAt : Constants → ℕ → Bool
-differsAt q n = differs (q .t) (exact q) (device q) n
+-- a difference at n, as an inequality
+abbrev pub DifferenceAt : Constants → ℕ → Type 0
+DifferenceAt q n = q .t < apart (exact q n) (device q n)

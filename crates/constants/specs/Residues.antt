@@ -1,87 +1,57 @@
--- Only for the proofs: the sides of a difference, and the gaps of the residues modulo d.
-use mathlib.Core.Path.{_≡_}
-use Prim.Native.Nat.{ℕ, _+_, _-_, _*_, _%_, _^_, _≤_, _<_}
-use mathlib.Core.Bool.{Bool, true, false, not}
+-- Only for the proofs: a side of the difference, and the gaps of the residues modulo d.
+use Prim.Native.Nat.{ℕ, _+_, _-_, _*_, _/_, _%_, _^_, _≤_, _<_}
+use mathlib.Core.Bool.{Bool, cond}
 use Rattle.constants.specs.declared.limits.Constants.{Constants}
 use Rattle.constants.specs.declared.search.Side.{Side}
-use Rattle.constants.specs.declared.search.Question.{Question}
-use Rattle.constants.specs.declared.search.Question.the-variants.{Residues, Periods}
-use Rattle.constants.specs.Difference.{apart}
-use Rattle.constants.specs.Allowed.{Allowed, exact, device}
-
--- a difference at n, as an inequality
-abbrev pub Differs : Constants → ℕ → Type 0
-Differs q n = q .t < apart (exact q n) (device q n)
+use Rattle.constants.specs.Limits.{lastA, lastD, lastM, lastK}
+use Rattle.constants.specs.Stairs.{stair}
 
 -- r is the least number below L of which P holds, and is L if P holds of none
 pub record IsLeast (P : ℕ → Type 0) (L r : ℕ) : Type 0 where
   pub within : r ≤ L
   pub before : (n : ℕ) → n < r → P n → ⊥
-  pub found : r < L → P r
+  pub here : r < L → P r
 
--- a side of the difference: the device's quotient is above the exact one (`true`), or below it
-unfoldable pub OnSide : Constants → Bool → ℕ → Type 0
-OnSide q true n = exact q n + q .t < device q n
-OnSide q false n = device q n + q .t < exact q n
+-- a side of the difference: the device's quotient is above the exact one, or below it
+abbrev pub sideOf : (q : Constants) (above : Bool) → Side
+sideOf q above =
+    record {
+      above = above;
+      a = q .a;
+      d = q .d;
+      m = q .m;
+      power = 2 ^ q .k;
+      rest = q .b % q .d;
+      need = cond above ((q .b / q .d + q .t + 1) * 2 ^ q .k) (q .c + q .t * 2 ^ q .k + 1);
+      have = cond above (q .c) (q .b / q .d * 2 ^ q .k);
+    }
 
--- for n = r + d * j the side holds where need r + pull of the other side * j ≤ have r + pull * j
-unfoldable pub need : Constants → Bool → ℕ → ℕ
-need q true r = (exact q r + q .t + 1) * 2 ^ q .k
-need q false r = q .m * r + q .c + q .t * 2 ^ q .k + 1
+-- what keeps a side's numbers within 64 bits
+pub record Narrow (s : Side) : Type 0 where
+  pub a-hi : s .a ≤ lastA
+  pub d-lo : 0 < s .d
+  pub d-hi : s .d ≤ lastD
+  pub m-hi : s .m ≤ lastM
+  pub power-hi : s .power ≤ 2 ^ lastK
+  pub rest-lt : s .rest < s .d
+  pub need-lt : s .need < 2 ^ 59
+  pub have-lt : s .have < 2 ^ 59
 
-unfoldable pub have : Constants → Bool → ℕ → ℕ
-have q true r = q .m * r + q .c
-have q false r = exact q r * 2 ^ q .k
+-- where the staircase and the line are at the residue x
+abbrev pub climb : Side → (x : ℕ) → ℕ
+climb s x = s .power * stair (s .d) (s .a) (s .rest) x
 
-unfoldable pub pull : Constants → Bool → ℕ
-pull q true = q .m * q .d
-pull q false = q .a * 2 ^ q .k
+abbrev pub run : Side → (x : ℕ) → ℕ
+run s x = s .m * x
 
--- what the residue r lacks for a difference on a side
-unfoldable pub gap : Constants → Bool → ℕ → ℕ
-unfolding need have
-gap q above r = need q above r - have q above r
+-- what the residue x lacks for a difference on the side
+unfoldable pub gap : Side → (x : ℕ) → ℕ
+gap s x = s .need + cond (s .above) (climb s x) (run s x) - (s .have + cond (s .above) (run s x) (climb s x))
 
--- s is a side of q
-pub record SideOf (q : Constants) (s : Side) : Type 0 where
-  pub power-is : s .power ≡ 2 ^ q .k
-  pub rest-is : s .rest ≡ q .b % q .d
-  pub need-is : s .need ≡ need q (s .above) 0
-  pub have-is : s .have ≡ have q (s .above) 0
+-- some residue below `end` has a gap of at most `bound`
+abbrev pub SomeGap : Side → (end bound : ℕ) → Type 0
+SomeGap s end bound = (x : ℕ) × (x < end) × (gap s x ≤ bound)
 
--- both sides of q
-pub record Sides (q : Constants) (above below : Side) : Type 0 where
-  pub above-is : above .above ≡ true
-  pub below-is : below .above ≡ false
-  pub above-side : SideOf q above
-  pub below-side : SideOf q below
-
--- some residue below n has a gap of at most `bound`
-abbrev pub SomeGap : Constants → Bool → (n bound : ℕ) → Type 0
-SomeGap q above n bound = (x : ℕ) × (x < n) × (gap q above x ≤ bound)
-
--- the answer to the binary search's question is yes at x
-abbrev pub Reached : Constants → Bool → Question → ℕ → Type 0
-Reached q above (Residues bound) x = SomeGap q above x bound
-Reached q above (Periods gain) x = SomeGap q above (q .d) (gain * x)
-
--- what keeps the question's numbers within 64 bits up to x
-abbrev pub Small : Constants → Question → ℕ → Type 0
-Small q (Residues bound) x = (x ≤ q .d) × (bound < 2 ^ 60)
-Small q (Periods gain) x = gain * x < 2 ^ 60
-
--- r is the least number from 1 to `end` of which P holds; or 0, and P does not hold of `end`
-pub record FirstReached (P : ℕ → Type 0) (end r : ℕ) : Type 0 where
-  pub most : r ≤ end
-  pub none : r ≡ 0 → P end → ⊥
-  pub good : 0 < r → P r
-  pub before : (i : ℕ) → 0 < i → i < r → P i → ⊥
-
--- what the search after the first d numbers starts from
-pub record Later (q : Constants) (s : Side) (gain : ℕ) : Type 0 where
-  pub allowed : Allowed q
-  pub side : SideOf q s
-  pub none : (n : ℕ) → n < q .d → Differs q n → ⊥
-  pub gains : pull q (s .above) ≡ pull q (not (s .above)) + gain
-  pub pos : 0 < gain
-  pub small : gain < 2 ^ 59
+-- the periods before n close the gap of its residue, each `gain` of it
+abbrev pub Closed : Side → (gain n : ℕ) → Type 0
+Closed s gain n = gap s (n % s .d) ≤ gain * (n / s .d)

@@ -1,29 +1,36 @@
--- Only for the proofs: a line against a staircase. n is the end, M the width, C the rise, D the start, A the slope, B the height, g the lead.
+-- Only for the proofs: a line against a staircase, in the words of stairs.rt.
 use Prim.Native.Nat.{ℕ, _+_, _-_, _*_, _/_, _^_, _≤_, _<_}
-use mathlib.Core.Bool.{Bool, true, false}
 
-abbrev pub stair : (M C D x : ℕ) → ℕ
-stair M C D x = (C * x + D) / M
+-- the staircase's steps at x
+abbrev pub stair : (width rise start x : ℕ) → ℕ
+stair width rise start x = (rise * x + start) / width
 
--- the line is g above the staircase, or more, somewhere below n
-abbrev pub LineReaches : (n M C D A B g : ℕ) → Type 0
-LineReaches n M C D A B g = (x : ℕ) × (x < n) × (g + B * stair M C D x ≤ A * x)
+-- what the line lacks at x to be up with the staircase, which has a lead
+abbrev pub lineGap : (width rise start slope height lead x : ℕ) → ℕ
+lineGap width rise start slope height lead x = lead + height * stair width rise start x - slope * x
 
--- the staircase is g above the line, or more, somewhere below n
-abbrev pub StairsReach : (n M C D A B g : ℕ) → Type 0
-StairsReach n M C D A B g = (x : ℕ) × (x < n) × (g + A * x ≤ B * stair M C D x)
+-- what the staircase lacks at x to be up with the line, which has a lead
+abbrev pub stairsGap : (width rise start slope height lead x : ℕ) → ℕ
+stairsGap width rise start slope height lead x = lead + slope * x - height * stair width rise start x
 
--- what keeps every product within 64 bits
-pub record Sizes (n M C D A B g : ℕ) : Type 0 where
-  pub some : 0 < n
-  pub start : D < M
-  pub apart : 0 < g
-  pub near : g ≤ 2 ^ 61
-  pub run : A * n ≤ 2 ^ 60
-  pub rise : B * stair M C D (n - 1) ≤ 2 ^ 60
-  pub span : C * (n - 1) + D ≤ 2 ^ 60
+-- r is the least value of f below `end`
+pub record LeastValue (f : ℕ → ℕ) (end r : ℕ) : Type 0 where
+  pub taken : (x : ℕ) × (x < end) × (f x ≤ r)
+  pub least : (x : ℕ) → x < end → r ≤ f x
 
--- r says whether P holds
-abbrev pub Decides : (r : Bool) (P : Type 0) → Type 0
-Decides true P = P
-Decides false P = P → ⊥
+-- what keeps every product within 64 bits at `line_gap`: where the line and the staircase are at the last x
+pub record LineSizes (end width rise start slope height lead : ℕ) : Type 0 where
+  pub some : 0 < end
+  pub start-lt : start < width
+  pub line-hi : slope * (end - 1) ≤ 2 ^ 61
+  pub stairs-hi : lead + height * stair width rise start (end - 1) ≤ 2 ^ 61
+  pub width-hi : rise * (end - 1) + width ≤ 2 ^ 61
+
+-- and at `stairs_gap`
+pub record StairsSizes (end width rise start slope height lead : ℕ) : Type 0 where
+  pub some : 0 < end
+  pub wide : 0 < width
+  pub line-hi : lead + slope * (end - 1) ≤ 2 ^ 61
+  pub stairs-hi : height * stair width rise start (end - 1) ≤ 2 ^ 61
+  pub width-hi : rise * (end - 1) + width ≤ 2 ^ 61
+  pub reach-hi : rise * (end - 1) + start ≤ 2 ^ 61

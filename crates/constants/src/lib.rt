@@ -1,16 +1,20 @@
-// Constants on trial: where a device's multiply-and-shift quotient first differs from the exact one, and whether
-// a claim about it is right. Document 01, "Constants on trial".
+// Constants on trial (document 01, "Constants on trial"): where a device's multiply-and-shift quotient, (m*n + c) >> k, is more than t
+// from the floor of (a*n + b) / d.
+//
+//     first_difference(a, b, d, m, c, k, t, end)        the least such n below `end`, or none        refusal 9
+//     check_bound(a, b, d, m, c, k, t, bound)           accepted, if `bound` is the least            refusals 9, then 10 with the least n, or 11
 
-ghost use mathlib.Core.Path.{_≡_};
-ghost use Rattle.constants.specs.Answers.{differenceAnswer, boundAnswer, searchOutcome, claimOutcome};
+use limits::Tested;
+use refusal::Refusal;
 
 mod limits;
+mod plain;
 mod quotients;
 mod search;
 mod stairs;
 
-use limits::Tested;
-use refusal::Refusal;
+ghost use mathlib.Core.Path.{_≡_};
+ghost use Rattle.constants.specs.Answers.{differenceAnswer, boundAnswer, searchOutcome, claimOutcome};
 
 pub enum SearchAnswer {
     // the least n below the end with a difference
@@ -30,8 +34,7 @@ pub enum ClaimAnswer {
     RefusedAt(Refusal, u64),
 }
 
-// The least n below `end` at which (m*n + c) >> k is more than t from the floor of (a*n + b) / d.
-// Numbers outside document 01's limits get 9.
+// The least n below `end` with a difference, or none below it.
 pub fn first_difference(
     a: i64,
     b: i64,
@@ -56,8 +59,8 @@ pub fn first_difference(
     }
 }
 
-// Whether `bound` is the least n with a difference: accepted; 10 with the least n where that is below `bound`;
-// 11 where no n up to `bound` has one. Numbers outside document 01's limits get 9.
+// Whether `bound` is the least n with a difference. 10 hands back the least n, which is below `bound`; 11 says that no n up to `bound`
+// has one.
 pub fn check_bound(
     a: i64,
     b: i64,
@@ -87,7 +90,7 @@ pub fn check_bound(
     if n < bound {
         return ClaimAnswer::RefusedAt(Refusal::DifferenceBelowBound, n);
     }
-    if quotients::differs(q, bound) {
+    if quotients::differ(q, bound) {
         ClaimAnswer::Accepted
     } else {
         ClaimAnswer::Refused(Refusal::NoDifferenceUpToBound)

@@ -1,7 +1,7 @@
 // The allowed limits of document 01, "Constants on trial", and the constants as natural numbers behind them.
 
 ghost use mathlib.Core.Path.{_≡_};
-ghost use Rattle.numbers.specs.Range.{outside};
+ghost use Rattle.constants.specs.Limits.{outsideLimits};
 ghost use Rattle.constants.specs.Allowed.{Tests};
 
 pub const A_FIRST: i64 = 1;
@@ -42,11 +42,17 @@ pub enum Tested {
     Outside,
 }
 
-// Whether z lies outside first..last.
-fn is_outside(first: i64, last: i64, z: i64) -> bool
-    ensures { λ r. ⌜ r ≡ outside first last z ⌝ }
+// Whether one of the constants lies outside its limits.
+fn outside_limits(a: i64, b: i64, d: i64, m: i64, c: i64, k: i64, t: i64) -> bool
+    ensures { λ r. ⌜ r ≡ outsideLimits a b d m c k t ⌝ }
 {
-    (z < first) | (last < z)
+    numbers::outside(A_FIRST, A_LAST, a)
+        | numbers::outside(0, B_LAST, b)
+        | numbers::outside(D_FIRST, D_LAST, d)
+        | numbers::outside(0, M_LAST, m)
+        | numbers::outside(0, C_LAST, c)
+        | numbers::outside(0, K_LAST, k)
+        | numbers::outside(0, T_LAST, t)
 }
 
 // The constants and `end` as natural numbers, if the constants lie within their limits and `end` in 0..last.
@@ -63,15 +69,7 @@ pub fn test_limits(
 ) -> Tested
     ensures { λ r. ⌜ Tests a b d m c k t end last r ⌝ }
 {
-    let outside = is_outside(A_FIRST, A_LAST, a)
-        | is_outside(0, B_LAST, b)
-        | is_outside(D_FIRST, D_LAST, d)
-        | is_outside(0, M_LAST, m)
-        | is_outside(0, C_LAST, c)
-        | is_outside(0, K_LAST, k)
-        | is_outside(0, T_LAST, t)
-        | is_outside(0, last, end);
-    if outside {
+    if outside_limits(a, b, d, m, c, k, t) | numbers::outside(0, last, end) {
         return Tested::Outside;
     }
     let constants = Constants {

@@ -2,19 +2,21 @@
 // of a difference, the device's quotient above the exact one or below it, sets in as soon as j periods close the gap of r.
 
 ghost use mathlib.Core.Path.{_≡_};
-ghost use Prim.Native.Nat.{_*_, _^_, _<_, _≤_, min};
-ghost use Rattle.constants.specs.Allowed.{Allowed};
-ghost use Rattle.constants.specs.Stairs.{Decides};
-ghost use Rattle.constants.specs.Residues.{Differs, IsLeast, gap, SomeGap, SideOf, Sides, Reached, Small, FirstReached, Later};
+ghost use Prim.Native.Nat.{_-_, _*_, _^_, _<_, _≤_};
+ghost use Rattle.constants.specs.Allowed.{Allowed, DifferenceAt};
+ghost use Rattle.constants.specs.Stairs.{LeastValue};
+ghost use Rattle.constants.specs.Residues.{IsLeast, sideOf, Narrow, gap, SomeGap, Closed};
 use crate::limits::Constants;
+use crate::plain;
 use crate::stairs;
 
-// No gap is as large: 2^59.
-const GAP_END: u64 = 576460752303423488;
-
-// A side of the difference. At the residue 0 its gap is what `need` is above `have`.
+// A side of the difference. Above the exact quotient, the gap at the residue x is what need + power*((a*x + rest) / d) is above
+// have + m*x; below it, the two products change places.
 struct Side {
     above: bool,
+    a: u64,
+    d: u64,
+    m: u64,
     // 2^k
     power: u64,
     // b % d
@@ -25,157 +27,104 @@ struct Side {
     have: u64,
 }
 
-// What the binary search asks of x.
-enum Question {
-    // whether some residue below x has a gap of at most this
-    Residues(u64),
-    // whether x periods, each of which gains this, close some residue's gap
-    Periods(u64),
-}
-
 // The side above or below the exact quotient.
 fn side_of(q: Constants, power: u64, above: bool) -> Side
     requires { ⌜ Allowed q × (power ≡ 2 ^ q .k) ⌝ }
-    ensures { λ s. ⌜ (s .above ≡ above) × SideOf q s ⌝ }
+    ensures { λ s. ⌜ s ≡ sideOf q above ⌝ }
 {
     let first = q.b / q.d;
-    let rest = q.b % q.d;
-    if above {
-        let need = (first + q.t + 1) * power;
-        return Side {
-            above,
-            power,
-            rest,
-            need,
-            have: q.c,
-        };
-    }
-    let need = q.c + q.t * power + 1;
-    let have = first * power;
+    let need = if above {
+        (first + q.t + 1) * power
+    } else {
+        q.c + q.t * power + 1
+    };
+    let have = if above { q.c } else { first * power };
     Side {
         above,
+        a: q.a,
+        d: q.d,
+        m: q.m,
         power,
-        rest,
+        rest: q.b % q.d,
         need,
         have,
     }
 }
 
-// Whether some residue below `end` has a gap of at most `bound` on the side.
-fn any_gap_within(q: Constants, s: Side, end: u64, bound: u64) -> bool
-    requires { ⌜ Allowed q × SideOf q s × (0 < end) × (end ≤ q .d) × (bound < 2 ^ 60) ⌝ }
-    ensures { λ r. ⌜ Decides r (SomeGap q (s .above) end bound) ⌝ }
+// The least gap of the residues below `end`, above `bound`; 0 if it is at most that.
+fn least_gap(s: Side, end: u64, bound: u64) -> u64
+    requires { ⌜ Narrow s × (0 < end) × (end ≤ s .d) × (bound < 2 ^ 60) ⌝ }
+    ensures { λ r. ⌜ LeastValue (λ x. gap s x - bound) end r ⌝ }
 {
-    let have = s.have + bound;
-    if s.need <= have {
-        return true;
-    }
-    let lead = s.need - have;
-    if s.above {
-        stairs::line_reaches(end, q.d, q.a, s.rest, q.m, s.power, lead)
-    } else {
-        stairs::stairs_reach(end, q.d, q.a, s.rest, q.m, s.power, lead)
-    }
-}
-
-// The answer for x.
-fn reached(q: Constants, s: Side, question: Question, x: u64) -> bool
-    requires { ⌜ Allowed q × SideOf q s × (0 < x) × Small q question x ⌝ }
-    ensures { λ r. ⌜ Decides r (Reached q (s .above) question x) ⌝ }
-{
-    match question {
-        Question::Residues(bound) => any_gap_within(q, s, x, bound),
-        Question::Periods(gain) => any_gap_within(q, s, q.d, gain * x),
-    }
-}
-
-// The least x from 1 to `end` for which the answer is yes; 0 if it is no for `end`.
-fn first_reached(q: Constants, s: Side, question: Question, end: u64) -> u64
-    requires { ⌜ Allowed q × SideOf q s × (0 < end) × Small q question end ⌝ }
-    ensures { λ r. ⌜ FirstReached (Reached q (s .above) question) end r ⌝ }
-{
-    if !reached(q, s, question, end) {
+    let lead = plain::excess(s.need, s.have + bound);
+    if lead == 0 {
         return 0;
     }
+    if s.above {
+        stairs::line_gap(end, s.d, s.a, s.rest, s.m, s.power, lead)
+    } else {
+        stairs::stairs_gap(end, s.d, s.a, s.rest, s.m, s.power, lead)
+    }
+}
+
+// The least residue below `end` with a gap of at most `bound`, where there is one.
+fn first_within(s: Side, end: u64, bound: u64) -> u64
+    requires { ⌜ Narrow s × (end ≤ s .d) × (bound < 2 ^ 60) × SomeGap s end bound ⌝ }
+    ensures { λ r. ⌜ IsLeast (λ x. gap s x ≤ bound) end r ⌝ }
+{
     let mut low: u64 = 0;
     let mut high = end;
     while low + 1 < high {
         let middle = low + (high - low) / 2;
-        if reached(q, s, question, middle) {
+        if least_gap(s, middle, bound) == 0 {
             high = middle;
         } else {
             low = middle;
         }
     }
-    high
+    low
 }
 
-// The least residue below `end` with a gap of at most `bound`; `end` if there is none.
-fn first_gap_within(q: Constants, s: Side, end: u64, bound: u64) -> u64
-    requires { ⌜ Allowed q × SideOf q s × (end ≤ q .d) × (bound < 2 ^ 60) ⌝ }
-    ensures { λ r. ⌜ IsLeast (λ x. gap q (s .above) x ≤ bound) end r ⌝ }
+// The fewest periods below `end` that close a gap of `nearest`, where each closes `gain` of it; `end` if none do.
+fn fewest_periods(nearest: u64, gain: u64, end: u64) -> u64
+    ensures { λ r. ⌜ IsLeast (λ j. nearest ≤ gain * j) end r ⌝ }
+{
+    if nearest == 0 {
+        return 0;
+    }
+    if gain == 0 {
+        return end;
+    }
+    plain::minimum((nearest - 1) / gain + 1, end)
+}
+
+// The least n below `end` whose residue's gap the periods before n close, each `gain` of it; `end` if there is none.
+fn first_closed(s: Side, gain: u64, end: u64) -> u64
+    requires { ⌜ Narrow s × (gain < 2 ^ 59) × (end < 2 ^ 32) ⌝ }
+    ensures { λ r. ⌜ IsLeast (Closed s gain) end r ⌝ }
 {
     if end == 0 {
         return 0;
     }
-    let x = first_reached(q, s, Question::Residues(bound), end);
-    if x == 0 { end } else { x - 1 }
-}
-
-fn minimum(x: u64, y: u64) -> u64
-    ensures { λ r. ⌜ r ≡ min x y ⌝ }
-{
-    if x < y { x } else { y }
-}
-
-// The least difference below `end`, where there is none below d, and the side gains `gain` in each period.
-fn after_first_period(q: Constants, s: Side, gain: u64, end: u64) -> u64
-    requires { ⌜ Later q s gain × (q .d < end) × (end < 2 ^ 32) ⌝ }
-    ensures { λ r. ⌜ IsLeast (Differs q) end r ⌝ }
-{
-    let d = q.d;
-    let most = minimum(end / d, GAP_END / gain + 1);
-    let j = first_reached(q, s, Question::Periods(gain), most);
-    if j == 0 {
+    let first = plain::minimum(s.d, end);
+    let nearest = least_gap(s, first, 0);
+    let periods = fewest_periods(nearest, gain, end);
+    let before = s.d * periods;
+    if end <= before {
         return end;
     }
-    let r = first_gap_within(q, s, d, gain * j);
-    minimum(r + d * j, end)
+    let r = first_within(s, first, gain * periods);
+    plain::minimum(r + before, end)
 }
 
-// The least difference below `end`, which is at most d; `end` if there is none.
-fn in_first_period(q: Constants, above: Side, below: Side, end: u64) -> u64
-    requires { ⌜ Allowed q × Sides q above below × (end ≤ q .d) ⌝ }
-    ensures { λ r. ⌜ IsLeast (Differs q) end r ⌝ }
-{
-    let r = first_gap_within(q, above, end, 0);
-    first_gap_within(q, below, r, 0)
-}
-
-// The least difference below `end`; `end` if there is none.
+// The least difference below `end`; `end` if there is none. In each period one side gains what the other loses.
 pub fn least_difference(q: Constants, end: u64) -> u64
     requires { ⌜ Allowed q × (end < 2 ^ 32) ⌝ }
-    ensures { λ r. ⌜ IsLeast (Differs q) end r ⌝ }
+    ensures { λ r. ⌜ IsLeast (DifferenceAt q) end r ⌝ }
 {
-    let d = q.d;
     let power = 1u64 << q.k;
-    let above = side_of(q, power, true);
-    let below = side_of(q, power, false);
-    let first = minimum(d, end);
-    let n = in_first_period(q, above, below, first);
-    if n < first {
-        return n;
-    }
-    if end <= d {
-        return end;
-    }
-    let device = q.m * d;
+    let device = q.m * q.d;
     let exact = q.a * power;
-    if exact < device {
-        return after_first_period(q, above, device - exact, end);
-    }
-    if device < exact {
-        return after_first_period(q, below, exact - device, end);
-    }
-    end
+    let n = first_closed(side_of(q, power, true), plain::excess(device, exact), end);
+    first_closed(side_of(q, power, false), plain::excess(exact, device), n)
 }

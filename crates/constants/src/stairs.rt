@@ -1,10 +1,13 @@
-// Whether a straight line is up with a staircase below an end, by Euclid's algorithm on the staircase's slope.
-// The staircase at x is (rise*x + start) / width steps, each `height` high; the line at x is slope*x.
+// How near a straight line and a staircase come to each other below an end, by Euclid's algorithm on the staircase's slope.
+// The staircase at x is (rise*x + start) / width steps, each `height` high; the line at x is slope*x. One of the two has a lead, and
+// the gap at x is what the other lacks there to be up with it, 0 where it is up.
 
-ghost use Rattle.constants.specs.Stairs.{LineReaches, StairsReach, Sizes, Decides};
+ghost use Rattle.constants.specs.Stairs.{lineGap, stairsGap, LeastValue, LineSizes, StairsSizes};
+use crate::plain;
 
-// Whether the line is `lead` above the staircase, or more, at some x below `end`.
-pub fn line_reaches(
+// The line's least gap below `end`. It lies at the last x, or at the last x of an earlier step; over the steps, those are a
+// staircase too.
+pub fn line_gap(
     end: u64,
     width: u64,
     rise: u64,
@@ -12,36 +15,34 @@ pub fn line_reaches(
     slope: u64,
     height: u64,
     lead: u64,
-) -> bool
-    requires { ⌜ Sizes end width rise start slope height lead ⌝ }
-    ensures { λ r. ⌜ Decides r (LineReaches end width rise start slope height lead) ⌝ }
+) -> u64
+    requires { ⌜ LineSizes end width rise start slope height lead ⌝ }
+    ensures { λ r. ⌜ LeastValue (lineGap width rise start slope height lead) end r ⌝ }
 {
     if end == 1 {
-        return false;
+        return lead;
     }
-    let part = rise % width;
     let whole = height * (rise / width);
     if slope <= whole {
-        return false;
+        return lead;
     }
+    let part = rise % width;
     let rest = slope - whole;
-    let steps = (part * (end - 1) + start) / width;
-    if lead + height * steps <= rest * (end - 1) {
-        return true;
-    }
+    let last = end - 1;
+    let steps = (part * last + start) / width;
+    let gap = plain::excess(lead + height * steps, rest * last);
     if steps == 0 {
-        return false;
+        return gap;
     }
-    let back = width - start - 1;
-    let gained = rest * (back / part);
-    if lead <= gained {
-        return true;
+    if gap == 0 {
+        return 0;
     }
-    stairs_reach(steps, part, width, back % part, height, rest, lead - gained)
+    let earlier = stairs_gap(steps, part, width, width - start - 1, height, rest, lead);
+    plain::minimum(gap, earlier)
 }
 
-// Whether the staircase is `lead` above the line, or more, at some x below `end`.
-pub fn stairs_reach(
+// The staircase's least gap below `end`. From the last x backwards it is the line that lacks, against another staircase.
+pub fn stairs_gap(
     end: u64,
     width: u64,
     rise: u64,
@@ -49,31 +50,23 @@ pub fn stairs_reach(
     slope: u64,
     height: u64,
     lead: u64,
-) -> bool
-    requires { ⌜ Sizes end width rise start slope height lead ⌝ }
-    ensures { λ r. ⌜ Decides r (StairsReach end width rise start slope height lead) ⌝ }
+) -> u64
+    requires { ⌜ StairsSizes end width rise start slope height lead ⌝ }
+    ensures { λ r. ⌜ LeastValue (stairsGap width rise start slope height lead) end r ⌝ }
 {
-    if end == 1 {
-        return false;
+    let last = end - 1;
+    let reach = rise * last + start;
+    let gap = plain::excess(lead + slope * last, height * (reach / width));
+    if gap == 0 {
+        return 0;
     }
-    let top = height * ((rise * (end - 1) + start) / width);
-    if top < lead {
-        return false;
-    }
-    let whole = height * (rise / width);
-    if slope <= whole {
-        return lead + slope * (end - 1) <= top;
-    }
-    let part = rise % width;
-    let rest = slope - whole;
-    let steps = (part * (end - 1) + start) / width;
-    if steps == 0 {
-        return false;
-    }
-    let back = width - start - 1;
-    let next = lead + rest + rest * (back / part);
-    if next <= height {
-        return true;
-    }
-    line_reaches(steps, part, width, back % part, height, rest, next - height)
+    line_gap(
+        end,
+        width,
+        rise,
+        width - 1 - reach % width,
+        slope,
+        height,
+        gap,
+    )
 }

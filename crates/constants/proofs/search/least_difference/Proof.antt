@@ -1,143 +1,75 @@
--- `least_difference` meets its contract: a difference stands in the first period, or on the side that gains.
-use Prim.Native.Nat.{ℕ, _*_, _%_, _^_, _<_}
-use mathlib.Core.Path.{_≡_, ap}
+-- `least_difference` meets its contract: the least on either side.
+use Prim.Native.Nat.{ℕ, _-_, _*_, _%_, _^_}
+use mathlib.Core.Bool.{true, false}
+use mathlib.Core.Path.{_≡_, ap, _∙_}
 use native.Mathlib.Omega.{arith}
 use borrow.Author.Needs.{needs}
-use Rattle.constants.specs.declared.limits.Constants.{Constants}
-use Rattle.constants.specs.Residues.{Differs, pull}
 use Rattle.constants.proofs.Arithmetic.{one-shifted}
-use Rattle.constants.proofs.Bounds.{device-period, exact-period}
-use Rattle.constants.proofs.Gaps.{never}
+use Rattle.constants.proofs.Bounds.{device-period, exact-period, sides-narrow}
+use Rattle.constants.proofs.Difference.{pull, gainOf, either-side}
 use Rattle.constants.proofs.search.least_difference.Statement.{statement}
 use Rattle.constants.proofs.search.least_difference.Tie as tie
+
+-- the shifted 1
+power-is : (s : tie.Start) → 1 * 2 ^ s .args .q .k % 2 ^ 64 ≡ 2 ^ s .args .q .k
+power-is s = one-shifted (s .args .q .k) (omega (arith, s .pre .0 .k-hi))
+
+exact-is : (s : tie.Start) → s .args .q .a * (1 * 2 ^ s .args .q .k % 2 ^ 64) ≡ s .args .q .a * 2 ^ s .args .q .k
+exact-is s = ap (λ (p : ℕ). s .args .q .a * p) (power-is s)
 
 shl-power : tie.Need-shl-power
 shl-power c = search needs
 
-side-of-requires : tie.Need-side-of-requires
-side-of-requires c κs = let w = c .before .pre .0 in (w, one-shifted _ (omega (arith, w .k-hi)))
-
-side-of-requires-2 : tie.Need-side-of-requires-2
-side-of-requires-2 c κs = let w = c .before .before .pre .0 in (w, one-shifted _ (omega (arith, w .k-hi)))
-
-minimum-requires : tie.Need-minimum-requires
-minimum-requires c κs = search needs
-
-in-first-period-requires : tie.Need-in-first-period-requires
-in-first-period-requires c κs =
-    let below = c .before .side-of2 .ensures in
-    let above = c .before .before .side-of .ensures in (
-      c .before .before .before .before .pre .0,
-      record { above-is = above .0; below-is = below .0; above-side = above .1; below-side = below .1 },
-      omega (arith, c .minimum .ensures),
-    )
-
-returns : tie.Need-returns
-returns c =
-    let n = c .before .in-first-period .ensures in
-    let m = c .before .before .minimum .ensures in
-    record { within = omega (arith, n .within); before = n .before; found = λ _. n .found (c .if1 .taken) }
-
-returns-2 : tie.Need-returns-2
-returns-2 c =
-    let n = c .before .before .in-first-period .ensures in
-    let m = c .before .before .before .minimum .ensures in
-    record { within = omega arith; before = λ i lt. n .before i (omega arith); found = λ lt. absurd (omega arith) }
-
 mul-device : tie.Need-mul-device
-mul-device c = omega (arith, device-period (c .before .before .before .before .before .before .before .before .pre .0))
-
--- what is known where the first period has no difference
-module _ (c : tie.After-struct-known3) where
-  abbrev s : tie.Start
-  s = c .before .before .before .before .before .before .before .before .before
-
-  abbrev q : Constants
-  q = s .args .q
-
-  exact-is : q .a * (1 * 2 ^ q .k % 2 ^ 64) ≡ q .a * 2 ^ q .k
-  exact-is = ap (λ (x : ℕ). q .a * x) (one-shifted (q .k) (omega (arith, s .pre .0 .k-hi)))
-
-  none : (n : ℕ) → n < q .d → Differs q n → ⊥
-  none n lt =
-      let m = c .before .before .before .before .before .minimum in
-      let i = c .before .before .before .before .in-first-period in
-      let out = c .before .before .before .if1 .left in
-      let far = c .before .before .if2 .left in
-      i .ensures .before n (omega (arith, m .ensures))
+mul-device c = omega (arith, device-period (c .before .before .pre .0))
 
 mul-exact : tie.Need-mul-exact
-mul-exact c = omega (arith, exact-period (s c .pre .0), exact-is c)
+mul-exact c = let s = c .before .before .before in omega (arith, exact-is s, exact-period (s .pre .0))
 
-sub-after-first-period : tie.Need-sub-after-first-period
-sub-after-first-period c = search needs
+side-of-requires : tie.Need-side-of-requires
+side-of-requires c κs = let s = c .before .before .before in (s .pre .0, power-is s)
 
-after-first-period-requires : tie.Need-after-first-period-requires
+excess-requires : tie.Need-excess-requires
+excess-requires c κs = tt
+
+first-closed-requires : tie.Need-first-closed-requires
+first-closed-requires c κs =
+    let s = c .before .before .before .before .before in
+    (rw (c .before .side-of .ensures) (sides-narrow (s .pre .0) true), omega (arith, c .excess .ensures, device-period (s .pre .0)), s .pre .1)
+
+side-of-requires-2 : tie.Need-side-of-requires-2
+side-of-requires-2 c κs = let s = c .before .before .before .before .before .before in (s .pre .0, power-is s)
+
+excess-requires-2 : tie.Need-excess-requires-2
+excess-requires-2 c κs = tt
+
+first-closed-requires-2 : tie.Need-first-closed-requires-2
+first-closed-requires-2 c κs =
+    let n = c .before .before .first-closed .ensures in
+    let s = c .before .before .before .before .before .before .before .before in
+    (rw (c .before .side-of2 .ensures) (sides-narrow (s .pre .0) false), omega (arith, c .excess2 .ensures, exact-is s, exact-period (s .pre .0)), omega (arith, n .within, s .pre .1))
+
+returns : tie.Need-returns
 unfolding pull
-after-first-period-requires c κs =
-    let p = c .before in
-    let side = p .before .before .before .before .before .before .before .side-of .ensures in (
-      record {
-        allowed = s p .pre .0;
-        side = side .1;
-        none = none p;
-        gains = rw (side .0) (omega (arith, exact-is p));
-        pos = omega arith;
-        small = omega (arith, device-period (s p .pre .0));
-      },
-      p .before .before .if2 .left,
-      s p .pre .1,
-    )
-
-returns-3 : tie.Need-returns-3
-returns-3 c = c .after-first-period .ensures
-
-after-first-period-requires-2 : tie.Need-after-first-period-requires-2
-unfolding pull
-after-first-period-requires-2 c κs =
-    let p = c .before .before in
-    let side = p .before .before .before .before .before .before .side-of2 .ensures in (
-      record {
-        allowed = s p .pre .0;
-        side = side .1;
-        none = none p;
-        gains = rw (side .0) (omega (arith, exact-is p));
-        pos = omega arith;
-        small = omega (arith, exact-period (s p .pre .0), exact-is p);
-      },
-      p .before .before .if2 .left,
-      s p .pre .1,
-    )
-
-returns-4 : tie.Need-returns-4
-returns-4 c = c .after-first-period2 .ensures
-
-returns-5 : tie.Need-returns-5
-unfolding pull
-returns-5 c =
-    let p = c .before .before in
-    record {
-      within = omega arith;
-      before = λ n lt. never (q p) (s p .pre .0) (none p) (omega (arith, exact-is p)) n;
-      found = λ lt. absurd (omega arith);
-    }
+returns c =
+    let b = c .before in
+    let a = b .before .before .before in
+    let s = a .before .before .before .before .before in
+    let up : a .excess .result ≡ gainOf (s .args .q) true = a .excess .ensures ∙ ap (λ (x : ℕ). s .args .q .m * s .args .q .d - x) (exact-is s) in
+    let down : b .excess2 .result ≡ gainOf (s .args .q) false = b .excess2 .ensures ∙ ap (λ (x : ℕ). x - s .args .q .m * s .args .q .d) (exact-is s) in
+    either-side (s .args .q) (s .pre .0) (rw (a .before .side-of .ensures, up) at (b .before .before .first-closed .ensures)) (rw (b .before .side-of2 .ensures, down) at (c .first-closed2 .ensures))
 
 pub least-difference-spec : {M : Type 1} → statement M
 least-difference-spec =
     tie.close
     (tie.spec
     shl-power
-    side-of-requires
-    side-of-requires-2
-    minimum-requires
-    in-first-period-requires
-    returns
-    returns-2
     mul-device
     mul-exact
-    sub-after-first-period
-    after-first-period-requires
-    returns-3
-    after-first-period-requires-2
-    returns-4
-    returns-5)
+    side-of-requires
+    excess-requires
+    first-closed-requires
+    side-of-requires-2
+    excess-requires-2
+    first-closed-requires-2
+    returns)

@@ -1,10 +1,10 @@
--- `differs` meets its contract.
+-- `differ` meets its contract.
 use mathlib.Core.Path.{ap, ap₂, _∙_}
 use borrow.Author.Needs.{needs}
 use lib.Dec.{ltb}
 use Rattle.constants.specs.Difference.{apart, differs}
-use Rattle.constants.proofs.quotients.differs.Statement.{statement}
-use Rattle.constants.proofs.quotients.differs.Tie as tie
+use Rattle.constants.proofs.quotients.differ.Statement.{statement}
+use Rattle.constants.proofs.quotients.differ.Tie as tie
 
 exact-quotient-requires : tie.Need-exact-quotient-requires
 exact-quotient-requires c κs = search needs
@@ -22,5 +22,5 @@ returns c =
     let exact = c .before .before .before .exact-quotient in
     ap (ltb _) (c .before .distance .ensures ∙ ap₂ apart (exact .ensures) (device .ensures))
 
-pub differs-spec : {M : Type 1} → statement M
-differs-spec = tie.close (tie.spec exact-quotient-requires device-quotient-requires distance-requires returns)
+pub differ-spec : {M : Type 1} → statement M
+differ-spec = tie.close (tie.spec exact-quotient-requires device-quotient-requires distance-requires returns)
