@@ -21,7 +21,7 @@ use Rattle.constants.specs.Limits.{outsideLimits, endOutside, boundOutside}
 use Rattle.constants.specs.Answers.{Accepted, difference, differenceAnswer, claimed, boundAnswer}
 use Rattle.constants.proofs.Least.{finds-at}
 
--- two outcomes of different kinds are not equal
+-- outcomes of different kinds are never equal: of such an equation `cc` proves 0 ≡ 1
 never : {A : Type 0} → _≡_ {A = ℕ} 0 1 → A
 never e = absurd (omega arith)
 
