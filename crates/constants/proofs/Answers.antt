@@ -8,7 +8,7 @@ use borrow.Author.Tests.{lt-ltb, le-ltb}
 use lib.IntN.{ℤ, pos, natAbs}
 use Rattle.refusal.specs.Outcome.{value, refused, refusedAt}
 use Rattle.constants.specs.declared.limits.Constants.{Constants}
-use Rattle.constants.specs.Difference.{deviceQuotient, apart, differs}
+use Rattle.constants.specs.Difference.{apart, differs}
 use Rattle.constants.specs.Least.{at, none, leastBelow, NoneBelow}
 use Rattle.constants.specs.Limits.{lastEnd, lastBound, outsideLimits, endOutside, boundOutside}
 use Rattle.constants.specs.Answers.{difference, differenceAnswer, claimed, boundAnswer}
@@ -29,7 +29,7 @@ module _ (a b d m c k t end : ℤ) where
 -- numbers within them, and the search's result r below the end n
 module _ {a b d m c k t end last : ℤ} {q : Constants} {n : ℕ} (p : Passed a b d m c k t end last q n) where
   abbrev test : ℕ → Bool
-  test = difference deviceQuotient a b d m c k t
+  test = difference a b d m c k t
 
   test-is : (i : ℕ) → differs (q .t) (exact q) (device q) i ≡ test i
   unfolding difference

@@ -56,7 +56,7 @@ never-nine none false e = clash (cc)
 
 module _ (a b d m c k t : ℤ) where
   abbrev test : ℕ → Bool
-  test = difference deviceQuotient a b d m c k t
+  test = difference a b d m c k t
 
   pub search-nine-exactly : (end : ℤ) → (differenceAnswer a b d m c k t end ≡ refused 9) ↔ ((outsideLimits a b d m c k t || endOutside end) ≡ true)
   unfolding differenceAnswer
@@ -74,22 +74,22 @@ module _ (a b d m c k t : ℤ) where
     search-is = rw inside
 
     -- a shorter search tells the answer, if it finds something
-    pub found-early : (l n : ℕ) → leastBelow (difference deviceQuotient a b d m c k t) l ≡ at n → l ≤ natAbs end → differenceAnswer a b d m c k t end ≡ value (at n)
+    pub found-early : (l n : ℕ) → leastBelow (difference a b d m c k t) l ≡ at n → l ≤ natAbs end → differenceAnswer a b d m c k t end ≡ value (at n)
     found-early l n e le = search-is ∙ ap value (least-stays test l (natAbs end) n e le)
 
 module _ (a b d m c k t : ℕ) where
   abbrev D : ℕ → Bool
-  D = difference deviceQuotient (pos a) (pos b) (pos d) (pos m) (pos c) (pos k) (pos t)
+  D = difference (pos a) (pos b) (pos d) (pos m) (pos c) (pos k) (pos t)
 
   -- "a difference at n means that the two are more than t apart"
   pub difference-exactly : (n : ℕ)
-      → (difference deviceQuotient (pos a) (pos b) (pos d) (pos m) (pos c) (pos k) (pos t) n ≡ true)
+      → (difference (pos a) (pos b) (pos d) (pos m) (pos c) (pos k) (pos t) n ≡ true)
       ↔ (t < apart (exactQuotient a b d n) (deviceQuotient m c k n))
   unfolding difference differs
   difference-exactly n = (ltb-true _ _, lt-ltb _ _)
 
   pub close-exactly : (n : ℕ)
-      → (difference deviceQuotient (pos a) (pos b) (pos d) (pos m) (pos c) (pos k) (pos t) n ≡ false)
+      → (difference (pos a) (pos b) (pos d) (pos m) (pos c) (pos k) (pos t) n ≡ false)
       ↔ (apart (exactQuotient a b d n) (deviceQuotient m c k n) ≤ t)
   unfolding difference differs
   close-exactly n = (ltb-false _ _, le-ltb _ _)
@@ -106,12 +106,12 @@ module _ (a b d m c k t : ℕ) where
 
     pub search-at-exactly : (n : ℕ)
         → (differenceAnswer (pos a) (pos b) (pos d) (pos m) (pos c) (pos k) (pos t) (pos L) ≡ value (at n))
-        ↔ FirstAt (difference deviceQuotient (pos a) (pos b) (pos d) (pos m) (pos c) (pos k) (pos t)) L n
+        ↔ FirstAt (difference (pos a) (pos b) (pos d) (pos m) (pos c) (pos k) (pos t)) L n
     search-at-exactly n = Iff·trans same-found (finds-at D L n)
 
     pub search-none-exactly :
         (differenceAnswer (pos a) (pos b) (pos d) (pos m) (pos c) (pos k) (pos t) (pos L) ≡ value none)
-        ↔ NoneBelow (difference deviceQuotient (pos a) (pos b) (pos d) (pos m) (pos c) (pos k) (pos t)) L
+        ↔ NoneBelow (difference (pos a) (pos b) (pos d) (pos m) (pos c) (pos k) (pos t)) L
     search-none-exactly = Iff·trans same-found (finds-none D L)
 
   -- the claim

@@ -12,10 +12,14 @@ use Rattle.constants.specs.Difference.{exactQuotient, deviceQuotient, di
 use Rattle.constants.specs.Least.{Found, at, none, leastBelow}
 use Rattle.constants.specs.Limits.{outsideLimits, endOutside, boundOutside}
 
--- a difference at n, for allowed constants, none of which is below zero, and a device: its quotient at n by its m, c and k
-unfoldable pub difference : (device : (m c k n : ℕ) → ℕ) (a b d m c k t : ℤ) → (n : ℕ) → Bool
-difference device a b d m c k t =
+-- a difference at n, for allowed constants, none of which is below zero, on a device of any kind: its quotient at n by its m, c and k
+abbrev pub differenceOn : (device : (m c k n : ℕ) → ℕ) (a b d m c k t : ℤ) → (n : ℕ) → Bool
+differenceOn device a b d m c k t =
     differs (natAbs t) (exactQuotient (natAbs a) (natAbs b) (natAbs d)) (device (natAbs m) (natAbs c) (natAbs k))
+
+-- and on document 01's
+unfoldable pub difference : (a b d m c k t : ℤ) → (n : ℕ) → Bool
+difference a b d m c k t = differenceOn deviceQuotient a b d m c k t
 
 -- a search, of any test: 9 if a number is outside its limits, else "the least n below L with a difference, or 'none below L'"
 abbrev pub searched : (outside : Bool) (test : ℕ → Bool) (end : ℤ) → Outcome Found
@@ -23,7 +27,7 @@ searched outside test end = cond outside (refused 9) (value (leastBelow test (na
 
 unfoldable pub differenceAnswer : (a b d m c k t end : ℤ) → Outcome Found
 differenceAnswer a b d m c k t end =
-    searched (outsideLimits a b d m c k t || endOutside end) (difference deviceQuotient a b d m c k t) end
+    searched (outsideLimits a b d m c k t || endOutside end) (difference a b d m c k t) end
 
 pub data Accepted : Type 0 where
   accepted : Accepted
@@ -41,8 +45,8 @@ boundAnswer a b d m c k t bound =
     cond (outsideLimits a b d m c k t || boundOutside bound)
     (refused 9)
     (claimed
-    (leastBelow (difference deviceQuotient a b d m c k t) (natAbs bound))
-    (difference deviceQuotient a b d m c k t (natAbs bound)))
+    (leastBelow (difference a b d m c k t) (natAbs bound))
+    (difference a b d m c k t (natAbs bound)))
 
 -- document 01's number and values for each case of the code's answers
 abbrev pub searchOutcome : SearchAnswer → Outcome Found
