@@ -18,7 +18,6 @@ use Rattle.instant.specs.Answers.{firstBad, indexDaysAnswer}
 use Rattle.labels.specs.Written.{bytesWritten}
 use Rattle.constants.specs.Least.{Found, at, none, leastBelow}
 use Rattle.constants.specs.Limits.{outsideLimits, endOutside, boundOutside}
-use Rattle.constants.specs.Difference.{deviceQuotient}
 use Rattle.constants.specs.Answers.{Accepted, difference, differenceAnswer, claimed, boundAnswer}
 use Rattle.constants.proofs.Least.{finds-at}
 
@@ -80,7 +79,7 @@ below-fits {end} {n} fits l = go end (fits .sfits) (subst (λ (z : ℤ). n < nat
 
 module _ (a b d m c k t : ℤ) where
   D : ℕ → Bool
-  D = difference deviceQuotient a b d m c k t
+  D = difference a b d m c k t
 
   found-below : (end : ℤ) (n : ℕ) → differenceAnswer a b d m c k t end ≡ value (at n) → n < natAbs end
   unfolding differenceAnswer D
