@@ -13,8 +13,8 @@
  *
  * Every call returns 0 or more where it is done, and below 0 where it is refused: the refusal's number negated, which has a
  * macro below. The refusals of a call are listed in the order in which they are looked for; the first whose cause holds is
- * answered. A refused call changes nothing that was lent to it. Two refusals hand back more than their number: each writes
- * that to a number of its own, `place` or `least`, which is unchanged after every other answer.
+ * answered. Two refusals hand back more than their number: each writes that to a number of its own, `place` or `least`, which
+ * is unchanged after every other answer. Nothing else that was lent to a refused call is changed.
  *
  * What is asked of the pointers that are handed in:
  *   - A pointer with a length points to that many elements. It may be null only where the length is 0.

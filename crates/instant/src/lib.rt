@@ -1,7 +1,7 @@
 // Instants, their fields and the recording index (document 01, "Instants and the two labels").
 //
-//     day_of_instant(instant)                                                        day count       refusal 4
-//     split_instant(instant)                                                         fields          refusal 4
+//     day_of_instant(instant)                                                   day count       refusal 4
+//     split_instant(instant)                                                    fields          refusal 4
 //     join_instant(year, month, day, hour, minute, second, millisecond)         instant         refusals 1, 2, 3, then 5
 //     index_days(instants, days)                                                days written    refusals 12, then 4 with the place
 

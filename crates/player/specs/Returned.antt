@@ -1,6 +1,7 @@
 -- What the exported calls return, and what they leave in the places that the caller hands in: document 01, "What the label desk gets":
 -- the value, "or the refusal number negated". A value that may be below zero, or is more than one number, goes to a place instead, and
--- the call then returns 0. What a place holds after a call is `afterCall` of the call's answer.
+-- the call then returns 0. What such a place holds after a call is `afterCall` of the call's answer; a place or least n that a refusal
+-- hands back has a place of its own (`afterRefusal`).
 use Prim.Native.Nat.{ℕ}
 use mathlib.Core.Bool.{Bool, cond}
 use mathlib.Core.List.{List, [], _∷_}

@@ -11,12 +11,12 @@
 //     ovenquill_day_of_instant(instant, days)                                 0, and the day count
 //     ovenquill_split_instant(instant, fields)                                0, and year to millisecond
 //     ovenquill_join_instant(year, .., millisecond, instant)                  0, and the instant
-//     ovenquill_index_days(instants, days, place)                             the days written, or the place of a bad instant
+//     ovenquill_index_days(instants, days, place)                             the days written; a refusal 4 puts the place in `place`
 //     ovenquill_write_instant(instant, out)                                   the bytes written
 //     ovenquill_read_instant(label, instant)                                  0, and the instant
 //     ovenquill_write_position(position, out)                                 the bytes written
 //     ovenquill_first_difference(a, b, d, m, c, k, t, end)                    the least n, or `end`
-//     ovenquill_check_bound(a, b, d, m, c, k, t, bound, least)                0 accepted, or the least n of a refusal 10
+//     ovenquill_check_bound(a, b, d, m, c, k, t, bound, least)                0 accepted; a refusal 10 puts the least n in `least`
 
 ghost use mathlib.Core.Path.{_≡_};
 ghost use Rattle.refusal.specs.Outcome.{afterCall};

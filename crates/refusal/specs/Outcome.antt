@@ -1,7 +1,7 @@
 -- What a call hands back, in document 01's numbers, and what it leaves in what was lent. Each crate says for each of its answers
 -- which outcome it is, and each contract is an equation between outcomes.
 use Prim.Native.Nat.{ℕ}
-use lib.IntN.{ℤ, pos}
+use lib.IntN.{ℤ}
 use Rattle.refusal.specs.Numbers.{refusalNumber}
 use Rattle.refusal.specs.declared.NumberAnswer.{NumberAnswer}
 use Rattle.refusal.specs.declared.NumberAnswer.the-variants as N
