@@ -1,12 +1,13 @@
 // The two labels of document 01, "Instants and the two labels": RFC 3339 for instants, WebVTT for positions.
 //
-//     rfc3339::write_instant(instant, out)      bytes written       refusals 4, then 7
-//     rfc3339::read_instant(label)         instant             refusals 8, then 2, 3, 5
+//     rfc3339::write_instant(instant, out)       bytes written       refusals 4, then 7
+//     rfc3339::read_instant(label)               instant             refusals 8, then 2, 3, 5
 //     webvtt::write_position(position, out)      bytes written       refusals 6, then 7
 
 use refusal::Refusal;
 
 mod buffer;
+mod clock;
 mod digits;
 pub mod rfc3339;
 pub mod webvtt;
