@@ -8,24 +8,17 @@ use native.Mathlib.Numerals.{add-one}
 use native.Mathlib.Omega.{arith}
 use borrow.Author.Tests.{leb-true, le-leb}
 use lib.Dec.{leb, lit<}
-use lib.ListN.{length, getD, drop, drop-of-length-le, length-append}
-use lib.Seq.{drop-cons, append-snoc}
+use lib.ListN.{length, drop, length-append, drop-of-length-le}
+use lib.Seq.{append-snoc, drop-append-le}
 use Rattle.labels.specs.Digits.{digits, numberFrom, number, isDigit}
 
--- ---- reading, byte by byte
+-- ---- powers of ten
 
-pub next-digit : (text : List ℕ) (n i : ℕ) → i < length text → numberFrom n (drop i text) ≡ numberFrom (n * 10 + (getD text i 0 - 48)) (drop (i + 1) text)
-next-digit text n i h = rw (add-one, drop-cons text i 0)
-
-pub all-read : (text : List ℕ) (n i : ℕ) → length text ≤ i → numberFrom n (drop i text) ≡ n
-all-read text n i h = rw (drop-of-length-le text h)
-
--- bytes below 256 make numbers below 23 * 10 ^ i, and seven of them fit 32 bits
 pub power-suc : (i : ℕ) → 10 ^ (i + 1) ≡ 10 ^ i * 10
 power-suc i = rw add-one (pow-suc 10 i)
 
-pub power-small : (i : ℕ) → i < 7 → 10 ^ i ≤ 1000000
-power-small i h = let l : i ≤ 6 = omega arith in pow-le-pow-right {n = 10} (lit< tt) l
+pub power-small : (i : ℕ) → i ≤ 7 → 10 ^ i ≤ 10000000
+power-small i h = pow-le-pow-right {n = 10} (lit< tt) h
 
 -- ---- a digit
 
@@ -66,6 +59,18 @@ number-below n (suc count) =
 pub length-digits : (n count : ℕ) → length (digits n count) ≡ count
 length-digits n zero = refl
 length-digits n (suc count) = length-append (digits (n / 10) count) _ ∙ omega (arith, length-digits (n / 10) count)
+
+-- digits without the first of them
+pub drop-digits : (n k count : ℕ) → drop k (digits n (k + count)) ≡ digits n count
+drop-digits n k zero =
+    let e : k + 0 ≡ k = omega arith in
+    let l : length (digits n k) ≤ k = omega (arith, length-digits n k) in
+    ap (λ c. drop k (digits n c)) e ∙ drop-of-length-le (digits n k) l
+drop-digits n k (suc count) =
+    let e : k + suc count ≡ suc (k + count) = omega arith in
+    ap (λ c. drop k (digits n c)) e
+    ∙ drop-append-le k (digits (n / 10) (k + count)) ((48 + n % 10) ∷ []) (omega (arith, length-digits (n / 10) (k + count)))
+    ∙ ap (λ l. l ++ (48 + n % 10) ∷ []) (drop-digits (n / 10) k count)
 
 -- ---- the digits of a text's number
 

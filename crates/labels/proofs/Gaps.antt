@@ -2,11 +2,11 @@
 use Prim.Native.Nat.{ℕ, zero, suc, _+_, _*_, _/_, _%_, _≤_, _<_}
 use mathlib.Core.Path.{_≡_, refl, sym, ap, ap₂, _∙_}
 use mathlib.Core.Bool.{Bool, true, false, cond, _&&_}
-use mathlib.Core.List.{List, [], _∷_}
+use mathlib.Core.List.{List, [], _∷_, map}
 use native.Mathlib.Omega.{arith}
 use lib.Bits.{bitAnd, bitXor, and-block, xor-block, xor-lt}
 use lib.Dec.{eqb, lit<}
-use lib.ListN.{length, replicate}
+use lib.ListN.{length, getD, replicate}
 use Rattle.labels.specs.Digits.{fitsOne, fits}
 use Rattle.labels.specs.Words.{word, maskOne, mask, above}
 use Rattle.labels.proofs.Decimal.{and-left, and-right}
@@ -34,7 +34,13 @@ word-gaps (s ∷ ss) (b ∷ bs) h =
     let y : s < 256 = omega (arith, h .1 .0 .0) in
     xor-block 8 (word bs) (word ss) b s x y ∙ ap (λ r. r * 256 + bitXor b s) (word-gaps ss bs (rest-both s b ss bs h))
 
--- the bits that a shape settles
+-- ---- the bits that a shape settles
+
+pub mask-at : (shape : List ℕ) (i : ℕ) → i < length shape → getD (map maskOne shape) i 0 ≡ maskOne (getD shape i 0)
+mask-at [] i h = absurd (omega arith)
+mask-at (s ∷ ss) zero h = refl
+mask-at (s ∷ ss) (suc i) h = mask-at ss i (omega arith)
+
 and-mask-gaps :
     (s b : ℕ) (ss bs : List ℕ) → s ≤ 255 → b ≤ 255 →
     bitAnd (word (gaps (s ∷ ss) (b ∷ bs))) (mask (s ∷ ss)) ≡ bitAnd (word (gaps ss bs)) (mask ss) * 256 + bitAnd (bitXor b s) (maskOne s)

@@ -1,15 +1,19 @@
 -- The fields of an instant have room in its label, and what the code writes of them is the label.
-use Prim.Native.Nat.{ℕ, _≤_}
-use mathlib.Core.Path.{_≡_, sym, ap, _∙_}
+use Prim.Native.Nat.{ℕ, _+_, _-_, _≤_, _<_, _^_}
+use mathlib.Core.Path.{_≡_, refl, sym, ap, _∙_}
 use mathlib.Core.Bool.{false}
-use mathlib.Core.List.{_++_}
+use mathlib.Core.List.{List, [], _∷_, _++_}
 use native.Mathlib.Omega.{arith}
-use lib.Dec.{lit<}
+use lib.Dec.{T, lit<}
 use lib.IntN.{ℤ, pos, natAbs}
+use lib.ListN.{length}
+use lib.Signed.{nonNeg}
+use mir.Syntax.{w32}
+use mir.Val.{Fits}
 use Rattle.refusal.specs.Outcome.{value}
 use Rattle.numbers.specs.Range.{outside}
 use Rattle.numbers.proofs.Machine.{read}
-use Rattle.numbers.proofs.Between.{Within, inside-pos, abs-read, read-below}
+use Rattle.numbers.proofs.Between.{Within, inside-pos, abs-read, cast-small, read-below}
 use Rattle.calendar.specs.Gregorian.{date}
 use Rattle.calendar.specs.Answers.{daysAnswer}
 use Rattle.calendar.specs.declared.Date.{Date}
@@ -21,56 +25,103 @@ use Rattle.instant.specs.declared.Fields.{Fields}
 use Rattle.instant.proofs.Times as times
 use Rattle.instant.proofs.Joined.{join-accepted}
 use Rattle.instant.proofs.Laws.{split-join}
-use Rattle.labels.specs.Rfc3339.{decimals, dateText, timeText, labelText}
-use Rattle.labels.specs.Pairs.{Narrow, NarrowFields, spelledText}
+use Rattle.labels.specs.Digits.{digits}
+use Rattle.labels.specs.Clock.{clockText}
+use Rattle.labels.specs.Rfc3339.{labelLength, decimals, numbersText, labelText}
+use Rattle.labels.specs.Words.{word, bytesOf}
+use Rattle.labels.specs.Filled.{filled}
+use Rattle.labels.specs.Parts.{HasRoom, Narrow, NarrowFields}
+use Rattle.labels.proofs.Spelling.{four-stored, pairs-stored}
+use Rattle.labels.proofs.Filled.{filled-then}
 
--- fields that make an instant
-wider : {k : ℕ} (l : ℕ) {z : ℤ} → Within 0 k z → k ≤ l → outside (pos 0) (pos l) z ≡ false
-wider l {z} w h = let s = w .high in ap (outside (pos 0) (pos l)) (w .is) ∙ inside-pos 0 l (natAbs z) (omega arith) (omega arith)
+-- ---- fields that make an instant
 
-pub joined-narrow : (year month day hour minute second millisecond instant : ℤ) → joinAnswer year month day hour minute second millisecond ≡ value instant → NarrowFields (record { year = year; month = month; day = day; hour = hour; minute = minute; second = second; millisecond = millisecond })
+room-in : {k : ℕ} (count : ℕ) {z : ℤ} → Within 0 k z → k ≤ 10 ^ count - 1 → HasRoom count z
+room-in count {z} w h = let s = w .high in ap (outside (pos 0) (pos (10 ^ count - 1))) (w .is) ∙ inside-pos 0 (10 ^ count - 1) (natAbs z) (omega arith) (omega arith)
+
+pub joined-narrow :
+    (year month day hour minute second fraction instant : ℤ) → joinAnswer year month day hour minute second fraction ≡ value instant →
+    NarrowFields (record { year = year; month = month; day = day; hour = hour; minute = minute; second = second; millisecond = fraction })
 unfolding daysAnswer
-joined-narrow year month day hour minute second millisecond instant e =
-    let a = join-accepted year month day hour minute second millisecond instant (sym e) in
+joined-narrow year month day hour minute second fraction instant e =
+    let a = join-accepted year month day hour minute second fraction instant (sym e) in
     let v = accepted-valid year month day countOfDate (a .count) (a .days) in
     let n = calendar.natural (date year month day) v in
-    let c = times.natural hour minute second millisecond (a .not-bad) in
+    let c = times.natural hour minute second fraction (a .not-bad) in
     record {
       year-within = v .year-inside;
       month-within = ap (λ (d : Date). outside (pos 0) (pos 99) (d .month)) (n .is) ∙ inside-pos 0 99 (n .m) (omega arith) (omega (arith, n .valid .month-high));
       day-within = ap (λ (d : Date). outside (pos 0) (pos 99) (d .day)) (n .is) ∙ inside-pos 0 99 (n .d) (omega arith) (omega (arith, calendar.day-small (n .y) (n .m) (n .d) (n .valid)));
-      hour-within = wider 99 (c .hour-within) (omega arith);
-      minute-within = wider 99 (c .minute-within) (omega arith);
-      second-within = wider 99 (c .second-within) (omega arith);
-      millisecond-within = wider 999 (c .fraction-within) (omega arith);
+      hour-within = room-in 2 (c .hour-within) (omega arith);
+      minute-within = room-in 2 (c .minute-within) (omega arith);
+      second-within = room-in 2 (c .second-within) (omega arith);
+      fraction-within = room-in decimals (c .fraction-within) (omega arith);
     }
 
 pub fields-narrow : (instant : ℤ) (f : Fields) → splitAnswer instant ≡ value f → NarrowFields f
 fields-narrow instant f e = joined-narrow (f .year) (f .month) (f .day) (f .hour) (f .minute) (f .second) (f .millisecond) instant (split-join instant f e)
 
+-- ---- a field in its digits, as the code reads it
+
+module _ (count : ℕ) (few : 10 ^ count - 1 < 2 ^ 32) (z : ℤ) (h : HasRoom count z) where
+  pub room-cast : T (nonNeg (read z)) × Fits w32 (natAbs (read z))
+  room-cast = cast-small (10 ^ count - 1) few z h
+
+  pub room-below : natAbs (read z) < 10 ^ count - 1 + 1
+  room-below = read-below (10 ^ count - 1) few z h
+
+  pub room-abs : natAbs (read z) ≡ natAbs z
+  room-abs = abs-read (10 ^ count - 1) few z h
+
 module _ (f : Fields) (n : NarrowFields f) where
   pub narrow-read :
-      Narrow (natAbs (read (f .year))) (natAbs (read (f .month))) (natAbs (read (f .day))) (natAbs (read (f .hour))) (natAbs (read (f .minute))) (natAbs (read (f .second))) (natAbs (read (f .millisecond)))
+      Narrow (natAbs (read (f .year))) (natAbs (read (f .month))) (natAbs (read (f .day))) (natAbs (read (f .hour))) (natAbs (read (f .minute)))
+      (natAbs (read (f .second))) (natAbs (read (f .millisecond)))
   narrow-read =
       record {
-        year-below = read-below 9999 (lit< tt) (f .year) (n .year-within);
-        month-below = read-below 99 (lit< tt) (f .month) (n .month-within);
-        day-below = read-below 99 (lit< tt) (f .day) (n .day-within);
-        hour-below = read-below 99 (lit< tt) (f .hour) (n .hour-within);
-        minute-below = read-below 99 (lit< tt) (f .minute) (n .minute-within);
-        second-below = read-below 99 (lit< tt) (f .second) (n .second-within);
-        millisecond-below = read-below 999 (lit< tt) (f .millisecond) (n .millisecond-within);
+        year-below = room-below 4 (lit< tt) (f .year) (n .year-within);
+        month-below = room-below 2 (lit< tt) (f .month) (n .month-within);
+        day-below = room-below 2 (lit< tt) (f .day) (n .day-within);
+        hour-below = room-below 2 (lit< tt) (f .hour) (n .hour-within);
+        minute-below = room-below 2 (lit< tt) (f .minute) (n .minute-within);
+        second-below = room-below 2 (lit< tt) (f .second) (n .second-within);
+        fraction-below = room-below decimals (lit< tt) (f .millisecond) (n .fraction-within);
       }
 
-  pub spelled-label :
-      spelledText (natAbs (read (f .year))) (natAbs (read (f .month))) (natAbs (read (f .day))) (natAbs (read (f .hour)))
-      (natAbs (read (f .minute))) (natAbs (read (f .second))) (natAbs (read (f .millisecond))) ≡ labelText f
-  spelled-label =
-      let y = abs-read 9999 (lit< tt) (f .year) (n .year-within) in
-      let o = abs-read 99 (lit< tt) (f .month) (n .month-within) in
-      let d = abs-read 99 (lit< tt) (f .day) (n .day-within) in
-      let h = abs-read 99 (lit< tt) (f .hour) (n .hour-within) in
-      let m = abs-read 99 (lit< tt) (f .minute) (n .minute-within) in
-      let s = abs-read 99 (lit< tt) (f .second) (n .second-within) in
-      let k = abs-read 999 (lit< tt) (f .millisecond) (n .millisecond-within) in
-      (λ i. dateText (y i) (o i) (d i) ++ timeText decimals (h i) (m i) (s i) (k i))
+  pub text-read :
+      numbersText (natAbs (read (f .year))) (natAbs (read (f .month))) (natAbs (read (f .day))) (natAbs (read (f .hour))) (natAbs (read (f .minute)))
+      (natAbs (read (f .second))) (natAbs (read (f .millisecond))) ≡ labelText f
+  text-read =
+      let y = room-abs 4 (lit< tt) (f .year) (n .year-within) in
+      let o = room-abs 2 (lit< tt) (f .month) (n .month-within) in
+      let d = room-abs 2 (lit< tt) (f .day) (n .day-within) in
+      let h = room-abs 2 (lit< tt) (f .hour) (n .hour-within) in
+      let m = room-abs 2 (lit< tt) (f .minute) (n .minute-within) in
+      let s = room-abs 2 (lit< tt) (f .second) (n .second-within) in
+      let k = room-abs decimals (lit< tt) (f .millisecond) (n .fraction-within) in
+      λ i. numbersText (y i) (o i) (d i) (h i) (m i) (s i) (k i)
+
+-- ---- the label from its pieces
+
+-- a label has as many bytes as labels have
+pub label-length : (f : Fields) → length (labelText f) ≡ labelLength
+unfolding numbersText
+label-length f = refl
+
+pub label-filled :
+    (year month day hour minute second fraction : ℕ) → Narrow year month day hour minute second fraction → (before : List ℕ) {one two three four : List ℕ} {y t : ℕ} →
+    y ≡ word (digits year 4) → one ≡ filled 0 (bytesOf 4 y ++ 45 ∷ []) before →
+    t ≡ word (digits month 2 ++ 45 ∷ digits day 2 ++ 84 ∷ digits hour 2) → two ≡ filled 5 (bytesOf 8 t ++ 58 ∷ []) one →
+    three ≡ filled 14 (clockText decimals minute second fraction) two → four ≡ filled (labelLength - 1) (90 ∷ []) three →
+    four ≡ filled 0 (numbersText year month day hour minute second fraction) before
+unfolding numbersText
+label-filled year month day hour minute second fraction n before {one} {two} y e t g h k =
+    let clock = clockText decimals minute second fraction in
+    let a = digits year 4 ++ 45 ∷ [] in
+    let b = (digits month 2 ++ 45 ∷ digits day 2 ++ 84 ∷ digits hour 2) ++ 58 ∷ [] in
+    let e′ : one ≡ filled 0 a before = e ∙ ap (λ l. filled 0 (l ++ 45 ∷ []) before) (four-stored year (n .year-below) y) in
+    let g′ : two ≡ filled 5 b one =
+    g ∙ ap (λ l. filled 5 (l ++ 58 ∷ []) one) (pairs-stored month 45 day 84 hour (n .month-below) (n .day-below) (n .hour-below) (omega arith) (omega arith) t) in
+    let ab = filled-then 0 a b before e′ refl g′ in
+    let abc = filled-then 0 (a ++ b) clock before ab refl h in
+    filled-then 0 ((a ++ b) ++ clock) (90 ∷ []) before abc refl k

@@ -2,17 +2,15 @@
 use Prim.Native.Nat.{ℕ, _+_, _-_, _*_, _/_, _%_, _^_, _≤_, _<_}
 use mathlib.Core.Path.{_≡_, refl, sym, ap, ap₂, _∙_}
 use mathlib.Core.Bool.{Bool, true, false, cond}
-use mathlib.Core.List.{List, _++_}
-use native.Mathlib.Nat.{div-add-mod'}
+use mathlib.Core.List.{List, _∷_, _++_}
+use native.Mathlib.Nat.{div-add-mod', pow-le-pow-right}
 use native.Mathlib.Omega.{arith}
 use lib.Dec.{ltb, lit<}
 use lib.IntN.{ℤ, pos, natAbs}
-use lib.ListN.{length, take, drop, length-append}
+use lib.ListN.{length, take, drop}
 use lib.Seq.{take-at, drop-at}
-use borrow.Author.Tests.{ltb-true, ltb-false}
-use Rattle.refusal.specs.Outcome.{mapValue, value, refused}
+use Rattle.refusal.specs.Outcome.{Outcome, mapValue, value, refused, refusedAt}
 use Rattle.numbers.specs.Range.{outside}
-use Rattle.numbers.proofs.Integers.{outside-no}
 use Rattle.numbers.proofs.Between.{within, inside-pos}
 use Rattle.calendar.specs.Range.{firstYear, lastYear}
 use Rattle.calendar.specs.Gregorian.{monthLength, date}
@@ -22,39 +20,23 @@ use Rattle.instant.specs.Answers.{badInstant, badTime, splitAnswer, joinAnswer}
 use Rattle.instant.specs.declared.Fields.{Fields}
 use Rattle.instant.proofs.Laws.{split-join, join-split}
 use Rattle.labels.specs.Digits.{digits, number, numberAt, fits}
-use Rattle.labels.specs.Rfc3339.{decimals, dateText, timeText, dateShape, timeShape, labelText, instantLabel, readFields, readAnswer}
-use Rattle.labels.specs.Pairs.{NarrowFields}
-use Rattle.labels.specs.Webvtt.{lastPosition, hourDigits, afterHours, positionText, positionLabel}
+use Rattle.labels.specs.Rfc3339.{firstLabelYear, lastLabelYear, labelLength, decimals, dateText, timeText, numbersText, dateShape, timeShape, labelText, instantLabel, readFields, readAnswer}
+use Rattle.labels.specs.Parts.{HasRoom, NarrowFields}
+use Rattle.labels.specs.Webvtt.{lastPosition, perHour, perMinute, perSecond, hourDigits, clockOf, positionText, positionLabel}
 use Rattle.labels.proofs.Decimal.{number-digits, number-below, length-digits}
-use Rattle.labels.proofs.Spelling.{within-hour}
-use Rattle.labels.proofs.Positions.{in-range}
+use Rattle.labels.proofs.Positions.{by-hours, length-position}
 use Rattle.labels.proofs.Shapes.{fits-both}
 use Rattle.labels.proofs.Texts.{date-back, time-back, date-fits, time-fits}
 use Rattle.labels.proofs.Instants.{fields-narrow}
+use Rattle.labels.proofs.Instants as instants
 
 -- ---- positions
-
--- the number of digits of the hours, by their size
-by-hours :
-    (P : ℕ → Type 0) (h : ℕ) → (h < 100 → P 2) → (100 ≤ h → h < 1000 → P 3) → (1000 ≤ h → h < 10000 → P 4) → (10000 ≤ h → P 5) → P (hourDigits h)
-by-hours P h p2 p3 p4 p5 = go (ltb h 100) (ltb h 1000) (ltb h 10000) refl refl refl
-  where
-    go : (a b c : Bool) → ltb h 100 ≡ a → ltb h 1000 ≡ b → ltb h 10000 ≡ c → P (cond a 2 (cond b 3 (cond c 4 5)))
-    go true b c p q r = p2 (ltb-true h 100 p)
-    go false true c p q r = p3 (ltb-false h 100 p) (ltb-true h 1000 q)
-    go false false true p q r = p4 (ltb-false h 1000 q) (ltb-true h 10000 r)
-    go false false false p q r = p5 (ltb-false h 10000 r)
-
-length-position : (n : ℕ) → length (positionText n) ≡ hourDigits (n / 3600000) + 10
-length-position n =
-    length-append (digits (n / 3600000) (hourDigits (n / 3600000))) (afterHours n)
-    ∙ ap (λ l. l + 10) (length-digits (n / 3600000) (hourDigits (n / 3600000)))
 
 -- a position label is 12, 13, 14 or 15 bytes long, by the size of the hours
 pub position-length :
     (n : ℕ) → length (positionText n)
-    ≡ cond (ltb (n / 3600000) 100) 12 (cond (ltb (n / 3600000) 1000) 13 (cond (ltb (n / 3600000) 10000) 14 15))
-position-length n = length-position n ∙ go (ltb (n / 3600000) 100) (ltb (n / 3600000) 1000) (ltb (n / 3600000) 10000)
+    ≡ cond (ltb (n / perHour) 100) 12 (cond (ltb (n / perHour) 1000) 13 (cond (ltb (n / perHour) 10000) 14 15))
+position-length n = length-position n ∙ go (ltb (n / perHour) 100) (ltb (n / perHour) 1000) (ltb (n / perHour) 10000)
   where
     go : (a b c : Bool) → cond a 2 (cond b 3 (cond c 4 5)) + 10 ≡ cond a 12 (cond b 13 (cond c 14 15))
     go true b c = refl
@@ -63,35 +45,38 @@ position-length n = length-position n ∙ go (ltb (n / 3600000) 100) (ltb (n / 3
     go false false false = refl
 
 -- the position of a label, read from its end
-afterHoursOf : List ℕ → ℕ
-afterHoursOf rest = numberAt 1 2 rest * 60000 + numberAt 4 2 rest * 1000 + numberAt 7 3 rest
+clockValue : List ℕ → ℕ
+clockValue text = numberAt 0 2 text * perMinute + numberAt 3 2 text * perSecond + numberAt 6 3 text
 
 positionOf : List ℕ → ℕ
-positionOf label = number (take (length label - 10) label) * 3600000 + afterHoursOf (drop (length label - 10) label)
+positionOf label = number (take (length label - 10) label) * perHour + clockValue (drop 1 (drop (length label - 10) label))
 
-after-hours-back : (n : ℕ) → afterHoursOf (afterHours n) ≡ n % 3600000
-unfolding afterHoursOf
-after-hours-back n =
-    let m = number-digits (n % 3600000 / 60000) 2 (omega arith) in
-    let s = number-digits (n % 60000 / 1000) 2 (omega arith) in
-    let k = number-digits (n % 1000) 3 (omega arith) in
-    let e = div-add-mod' (n % 3600000) 60000 in
-    let f = div-add-mod' (n % 60000) 1000 in
-    let g : n % 60000 % 1000 ≡ n % 1000 = omega arith in
+within-hour : (n : ℕ) → n % perHour % perMinute ≡ n % perMinute
+within-hour n = omega arith
+
+clock-back : (n : ℕ) → clockValue (clockOf n) ≡ n % perHour
+unfolding clockValue
+clock-back n =
+    let m = number-digits (n % perHour / perMinute) 2 (omega arith) in
+    let s = number-digits (n % perMinute / perSecond) 2 (omega arith) in
+    let k = number-digits (n % perSecond) 3 (omega arith) in
+    let e = div-add-mod' (n % perHour) perMinute in
+    let f = div-add-mod' (n % perMinute) perSecond in
+    let g : n % perMinute % perSecond ≡ n % perSecond = omega arith in
     omega (arith, within-hour n)
 
-position-back : (n : ℕ) → n < 360000000000 → positionOf (positionText n) ≡ n
+position-back : (n : ℕ) → n ≤ natAbs lastPosition → positionOf (positionText n) ≡ n
 unfolding positionOf
 position-back n last =
-    let h = n / 3600000 in
+    let h = n / perHour in
     let w = hourDigits h in
     let l : length (positionText n) - 10 ≡ w = omega (arith, length-position n) in
     let b : h < 10 ^ w = by-hours (λ w. h < 10 ^ w) h (λ a. a) (λ a b. b) (λ a b. b) (λ a. omega arith) in
-    ap₂ (λ a b. number a * 3600000 + afterHoursOf b)
-    (ap (λ l. take l (positionText n)) l ∙ take-at (digits h w) (afterHours n) w (length-digits h w))
-    (ap (λ l. drop l (positionText n)) l ∙ drop-at (digits h w) (afterHours n) w (length-digits h w))
-    ∙ ap₂ (λ a b. a * 3600000 + b) (number-digits h w b) (after-hours-back n)
-    ∙ div-add-mod' n 3600000
+    ap₂ (λ a b. number a * perHour + clockValue (drop 1 b))
+    (ap (λ l. take l (positionText n)) l ∙ take-at (digits h w) (58 ∷ clockOf n) w (length-digits h w))
+    (ap (λ l. drop l (positionText n)) l ∙ drop-at (digits h w) (58 ∷ clockOf n) w (length-digits h w))
+    ∙ ap₂ (λ a b. a * perHour + b) (number-digits h w b) (clock-back n)
+    ∙ div-add-mod' n perHour
 
 accepted :
     (z : ℤ) (label : List ℕ) → positionLabel z ≡ value label →
@@ -106,9 +91,8 @@ accepted z label = go (outside (pos 0) lastPosition z)
 position-read : (z : ℤ) (label : List ℕ) → positionLabel z ≡ value label → z ≡ pos (positionOf label)
 position-read z label e =
     let a = accepted z label e in
-    let o = outside-no (pos 0) lastPosition z (a .1) in
-    let r = in-range z (o .0) (o .1) in
-    r .0 ∙ ap pos (sym (position-back (natAbs z) (r .1)) ∙ ap positionOf (a .0))
+    let r = within 0 lastPosition z (a .1) in
+    r .is ∙ ap pos (sym (position-back (natAbs z) (r .high)) ∙ ap positionOf (a .0))
 
 -- two positions with the same label are the same position
 pub same-position : (z y : ℤ) (label : List ℕ) → positionLabel z ≡ value label → positionLabel y ≡ value label → z ≡ y
@@ -117,26 +101,30 @@ same-position z y label e f = position-read z label e ∙ sym (position-read y l
 -- ---- instants
 
 -- the number of a field's digits is the field
-field-back : (k count : ℕ) → k < 10 ^ count → (z : ℤ) → outside (pos 0) (pos k) z ≡ false → pos (number (digits (natAbs z) count)) ≡ z
-field-back k count h z e =
-    let w = within 0 (pos k) z e in
+field-back : (count : ℕ) → (z : ℤ) → HasRoom count z → pos (number (digits (natAbs z) count)) ≡ z
+field-back count z e =
+    let w = within 0 (pos (10 ^ count - 1)) z e in
     let l = w .high in
+    let o : 0 ≤ count = omega arith in
+    let p : 1 ≤ 10 ^ count = pow-le-pow-right {n = 10} (lit< tt) o in
     ap pos (number-digits (natAbs z) count (omega arith)) ∙ sym (w .is)
 
 fields-back :
     (f : Fields) → NarrowFields f →
     readFields (labelText f) (drop 10 (labelText f)) ≡ joinAnswer (f .year) (f .month) (f .day) (f .hour) (f .minute) (f .second) (f .millisecond)
+unfolding numbersText
 fields-back f n =
-    let y = field-back 9999 4 (lit< tt) (f .year) (n .year-within) in
-    let o = field-back 99 2 (lit< tt) (f .month) (n .month-within) in
-    let d = field-back 99 2 (lit< tt) (f .day) (n .day-within) in
-    let h = field-back 99 2 (lit< tt) (f .hour) (n .hour-within) in
-    let m = field-back 99 2 (lit< tt) (f .minute) (n .minute-within) in
-    let s = field-back 99 2 (lit< tt) (f .second) (n .second-within) in
-    let k = field-back 999 3 (lit< tt) (f .millisecond) (n .millisecond-within) in
+    let y = field-back 4 (f .year) (n .year-within) in
+    let o = field-back 2 (f .month) (n .month-within) in
+    let d = field-back 2 (f .day) (n .day-within) in
+    let h = field-back 2 (f .hour) (n .hour-within) in
+    let m = field-back 2 (f .minute) (n .minute-within) in
+    let s = field-back 2 (f .second) (n .second-within) in
+    let k = field-back decimals (f .millisecond) (n .fraction-within) in
     λ i. joinAnswer (y i) (o i) (d i) (h i) (m i) (s i) (k i)
 
 label-fits : (f : Fields) → fits (dateShape ++ timeShape decimals) (labelText f) ≡ true
+unfolding numbersText
 label-fits f =
     fits-both dateShape (timeShape decimals) (dateText (natAbs (f .year)) (natAbs (f .month)) (natAbs (f .day)))
     (timeText decimals (natAbs (f .hour)) (natAbs (f .minute)) (natAbs (f .second)) (natAbs (f .millisecond)))
@@ -154,10 +142,15 @@ pub instant-labelled : (instant : ℤ) → badInstant instant ≡ false → inst
 unfolding instantLabel splitAnswer
 instant-labelled instant h = ap (λ t. mapValue labelText (cond t (refused 4) (value (fieldsOf instant)))) h
 
--- writing then reading gives the instant back, for every instant in the range
-pub write-read : (instant : ℤ) → badInstant instant ≡ false → readAnswer (labelText (fieldsOf instant)) ≡ value instant
-unfolding splitAnswer
-write-read instant h = fields-read instant (fieldsOf instant) (ap (λ t. cond t (refused 4) (value (fieldsOf instant))) h)
+-- writing then reading gives the instant back
+pub write-read : (instant : ℤ) (label : List ℕ) → instantLabel instant ≡ value label → readAnswer label ≡ value instant
+unfolding instantLabel
+write-read instant label e = go (splitAnswer instant) refl e
+  where
+    go : (o : Outcome Fields) → splitAnswer instant ≡ o → mapValue labelText o ≡ value label → readAnswer label ≡ value instant
+    go (value f) s e = let l : labelText f ≡ label = cc in sym (ap readAnswer l) ∙ fields-read instant f s
+    go (refused n) s e = absurd (let z : _≡_ {A = ℕ} 0 1 = cc in omega arith)
+    go (refusedAt n place) s e = absurd (let z : _≡_ {A = ℕ} 0 1 = cc in omega arith)
 
 -- an accepted label has the shape, and its fields make the instant
 read-accepted :
@@ -181,7 +174,7 @@ label-back label h =
 
 -- reading an accepted label then writing gives the same bytes
 pub read-write : (label : List ℕ) (instant : ℤ) → readAnswer label ≡ value instant → instantLabel instant ≡ value label
-unfolding instantLabel
+unfolding instantLabel numbersText
 read-write label instant e =
     let a = read-accepted label instant e in
     let t = drop 10 label in
@@ -190,13 +183,18 @@ read-write label instant e =
     (pos (numberAt 7 2 t)) (pos (numberAt 10 decimals t)) instant (a .1))
     ∙ ap value (label-back label (a .0))
 
--- an instant label has 24 bytes
-pub label-length : (f : Fields) → length (labelText f) ≡ 24
-label-length f = refl
+-- every instant label has labelLength bytes, and these are 24
+pub label-length : (f : Fields) → length (labelText f) ≡ labelLength
+label-length f = instants.label-length f
 
--- no more than four digits make the year
-year-small : (label : List ℕ) → fits (dateShape ++ timeShape decimals) label ≡ true → numberAt 0 4 label ≤ 9999
-year-small label h = omega (arith, ap (numberAt 0 4) (label-back label h), number-below (numberAt 0 4 label) 4)
+pub label-bytes : labelLength ≡ 24
+label-bytes = refl
+
+-- the digits of the year are one of the label's years
+year-inside : (label : List ℕ) → fits (dateShape ++ timeShape decimals) label ≡ true → outside firstLabelYear lastLabelYear (pos (numberAt 0 4 label)) ≡ false
+year-inside label h =
+    let b = number-below (numberAt 0 4 label) 4 in
+    inside-pos 0 (natAbs lastLabelYear) (numberAt 0 4 label) (omega arith) (omega (arith, ap (numberAt 0 4) (label-back label h)))
 
 later-refusal : {A : Type 0} (b c t : Bool) (v : A) → cond b (refused 2) (cond c (refused 3) (cond t (refused 5) (value v))) ≡ refused 1 → ⊥
 later-refusal true c t v e = let z : _≡_ {A = ℕ} 2 1 = cc in omega arith
@@ -212,7 +210,7 @@ join-year year month day hour minute second millisecond h e =
     later-refusal (outside (pos 1) (pos 12) month) (outside (pos 1) (monthLength year month) day) (badTime hour minute second millisecond)
     (instantAt (date year month day) (timeOfFields hour minute second millisecond)) (rw h at e)
 
--- the four digits of a year are in the range of years: reading never refuses with 1
+-- the years of labels are in the range of years: reading never refuses with 1
 pub read-year : (label : List ℕ) → readAnswer label ≡ refused 1 → ⊥
 unfolding readAnswer
 read-year label = go (fits (dateShape ++ timeShape decimals) label) refl
@@ -222,4 +220,4 @@ read-year label = go (fits (dateShape ++ timeShape decimals) label) refl
     go true h e =
         let t = drop 10 label in
         join-year (pos (numberAt 0 4 label)) (pos (numberAt 5 2 label)) (pos (numberAt 8 2 label)) (pos (numberAt 1 2 t)) (pos (numberAt 4 2 t)) (pos (numberAt 7 2 t))
-        (pos (numberAt 10 decimals t)) (inside-pos 0 9999 (numberAt 0 4 label) (omega arith) (year-small label h)) e
+        (pos (numberAt 10 decimals t)) (year-inside label h) e

@@ -1,39 +1,134 @@
--- A tested position as a natural number, and its label.
-use Prim.Native.Nat.{ℕ, _<_}
-use mathlib.Core.Path.{_≡_, ap, _∙_}
-use mathlib.Core.Bool.{true, false}
-use mathlib.Core.List.{List}
+-- A position's label, from the hours and the clock behind them.
+use Prim.Native.Nat.{ℕ, _+_, _-_, _*_, _/_, _%_, _^_, _≤_, _<_}
+use mathlib.Core.Path.{_≡_, refl, sym, ap, _∙_, subst}
+use mathlib.Core.Bool.{Bool, true, false, cond}
+use mathlib.Core.List.{List, [], _∷_, _++_, append-assoc, append-nil}
+use native.Mathlib.Nat.{div-div-eq-div-mul}
 use native.Mathlib.Omega.{arith}
+use borrow.Author.Tests.{ltb-true, ltb-false, lt-ltb}
+use lib.Dec.{ltb}
 use lib.IntN.{ℤ, pos, natAbs}
-use lib.Signed.{ltZ}
+use lib.ListN.{length, drop, length-append}
+use lib.Seq.{append-snoc, drop-append-le}
 use mir.Syntax.{w64}
 use mir.Val.{SFits}
 use mir.Facts.{toZ-ofZ}
-use Rattle.refusal.specs.Outcome.{Outcome, value, refused}
-use Rattle.numbers.proofs.Integers.{not-outside}
-use Rattle.numbers.proofs.Between.{within}
-use Rattle.numbers.proofs.Machine.{read, tested-below, tested-above, tested-inside}
-use Rattle.labels.proofs.Copy.{Writes, renamed}
-use Rattle.labels.specs.Webvtt.{lastPosition, positionText, positionLabel}
+use Rattle.refusal.specs.Outcome.{value, refused}
+use Rattle.numbers.specs.Range.{outside}
+use Rattle.numbers.proofs.Between.{within, read-high}
+use Rattle.numbers.proofs.Machine.{read}
+use Rattle.labels.specs.Digits.{digits}
+use Rattle.labels.specs.Clock.{clockText}
+use Rattle.labels.specs.Words.{word, bytesOf}
+use Rattle.labels.specs.Filled.{filled, Begins}
+use Rattle.labels.specs.Webvtt.{lastPosition, perHour, perMinute, perSecond, hourDigits, clockOf, positionText, positionLabel}
+use Rattle.labels.proofs.Decimal.{length-digits, drop-digits}
+use Rattle.labels.proofs.Words.{AllLe, drop-le, all-bytes, more-bytes, word-drop}
+use Rattle.labels.proofs.Spelling.{place-100, place-1000}
+use Rattle.labels.proofs.Filled.{filled-begins, filled-over}
 
-pub in-range : (z : ℤ) → ltZ z (pos 0) ≡ false → ltZ lastPosition z ≡ false → (z ≡ pos (natAbs z)) × (natAbs z < 360000000000)
-in-range z lo hi = let w = within 0 lastPosition z (not-outside (pos 0) lastPosition z lo hi) in (w .is, omega (arith, w .high))
+-- ---- the range
 
 module _ {z : ℤ} (f : SFits w64 z) where
-  pub below-range : ltZ (read z) (pos 0) ≡ true → refused 6 ≡ positionLabel z
+  pub out-of-range : outside (pos 0) lastPosition z ≡ true → refused 6 ≡ positionLabel z
   unfolding positionLabel
-  below-range lo = rw (tested-below (pos 0) lastPosition f lo)
+  out-of-range h = rw h
 
-  pub above-range : ltZ (read z) (pos 0) ≡ false → ltZ lastPosition (read z) ≡ true → refused 6 ≡ positionLabel z
-  unfolding positionLabel
-  above-range lo hi = rw (tested-above (pos 0) lastPosition f lo hi)
+  module _ (h : outside (pos 0) lastPosition z ≡ false) where
+    pub labelled : value (positionText (natAbs (read z))) ≡ positionLabel z
+    unfolding positionLabel
+    labelled = rw h (ap (λ z. value (positionText (natAbs z))) (toZ-ofZ f))
 
-  labelled : ltZ (read z) (pos 0) ≡ false → ltZ lastPosition (read z) ≡ false → value (positionText (natAbs (read z))) ≡ positionLabel z
-  unfolding positionLabel
-  labelled lo hi = rw (tested-inside (pos 0) lastPosition f lo hi) (ap (λ z. value (positionText (natAbs z))) (toZ-ofZ f))
+    pub in-range : natAbs (read z) ≤ natAbs lastPosition
+    in-range = read-high f (within 0 lastPosition z h)
 
-  -- what is written is the label, if its text is
-  pub label-written :
-      ltZ (read z) (pos 0) ≡ false → ltZ lastPosition (read z) ≡ false → (before : List ℕ) {text after : List ℕ} {r : Outcome ℕ} →
-      text ≡ positionText (natAbs (read z)) → Writes (value text) before after r → Writes (positionLabel z) before after r
-  label-written lo hi before e = renamed before (ap value e ∙ labelled lo hi)
+-- ---- the clock
+
+-- the minutes, seconds and milliseconds of an hour's milliseconds
+pub clock-is :
+    (n : ℕ) → clockText 3 (n % perHour / 1000 / 60) (n % perHour / 1000 % 60) (n % perHour % 1000) ≡ clockOf n
+clock-is n =
+    let m : n % perHour / 1000 / 60 ≡ n % perHour / perMinute = div-div-eq-div-mul (n % perHour) 1000 60 in
+    let s : n % perHour / 1000 % 60 ≡ n % perMinute / perSecond = omega arith in
+    let k : n % perHour % 1000 ≡ n % perSecond = omega arith in
+    λ i. clockText 3 (m i) (s i) (k i)
+
+-- ---- the hours
+
+-- the number of digits of the hours, by their size
+pub by-hours :
+    (P : ℕ → Type 0) (h : ℕ) → (h < 100 → P 2) → (100 ≤ h → h < 1000 → P 3) → (1000 ≤ h → h < 10000 → P 4) → (10000 ≤ h → P 5) → P (hourDigits h)
+by-hours P h p2 p3 p4 p5 = go (ltb h 100) (ltb h 1000) (ltb h 10000) refl refl refl
+  where
+    go : (a b c : Bool) → ltb h 100 ≡ a → ltb h 1000 ≡ b → ltb h 10000 ≡ c → P (cond a 2 (cond b 3 (cond c 4 5)))
+    go true b c p q r = p2 (ltb-true h 100 p)
+    go false true c p q r = p3 (ltb-false h 100 p) (ltb-true h 1000 q)
+    go false false true p q r = p4 (ltb-false h 1000 q) (ltb-true h 10000 r)
+    go false false false p q r = p5 (ltb-false h 10000 r)
+
+pub two-to-five : (h : ℕ) → (2 ≤ hourDigits h) × (hourDigits h ≤ 5)
+two-to-five h =
+    by-hours (λ d. (2 ≤ d) × (d ≤ 5)) h (λ a. (omega arith, omega arith)) (λ a b. (omega arith, omega arith)) (λ a b. (omega arith, omega arith))
+    (λ a. (omega arith, omega arith))
+
+pub length-position : (n : ℕ) → length (positionText n) ≡ hourDigits (n / perHour) + 10
+length-position n = length-append (digits (n / perHour) (hourDigits (n / perHour))) (58 ∷ clockOf n) ∙ ap (λ l. l + 10) (length-digits (n / perHour) (hourDigits (n / perHour)))
+
+five-digits : (n : ℕ) → n < 100000 → (48 + n / 10000) ∷ digits (n % 10000) 4 ≡ digits n 5
+five-digits n h =
+    let z : n / 10000 ≡ n / 10 / 10 / 10 / 10 % 10 = rw (place-1000 n, div-div-eq-div-mul n 1000 10) (omega arith) in
+    let a : n % 10000 / 10 / 10 / 10 % 10 ≡ n / 10 / 10 / 10 % 10 = rw (place-1000 n, place-1000 (n % 10000)) (omega arith) in
+    let b : n % 10000 / 10 / 10 % 10 ≡ n / 10 / 10 % 10 = rw (place-100 n, place-100 (n % 10000)) (omega arith) in
+    let d : n % 10000 / 10 % 10 ≡ n / 10 % 10 = omega arith in
+    let e : n % 10000 % 10 ≡ n % 10 = omega arith in
+    cc
+
+length-hours : (h count : ℕ) → length (digits h count ++ 58 ∷ []) ≡ count + 1
+length-hours h count = length-append (digits h count) (58 ∷ []) ∙ ap (λ l. l + 1) (length-digits h count)
+
+module _ (h : ℕ) {count : ℕ} (c : count ≡ hourDigits h) (buffer : List ℕ) {after : List ℕ} (room : 8 ≤ length buffer) where
+  -- two digits and the colon
+  pub few-hours : h < 100 → after ≡ filled 0 (bytesOf 2 (12336 + h % 10 * 256 + h / 10) ++ 58 ∷ []) buffer → Begins (digits h count ++ 58 ∷ []) 8 buffer after
+  few-hours l e =
+      let two : count ≡ 2 = c ∙ ap (λ t. cond t 2 (cond (ltb h 1000) 3 (cond (ltb h 10000) 4 5))) (lt-ltb h 100 l) in
+      let w : 12336 + h % 10 * 256 + h / 10 ≡ word (digits h 2) = omega arith in
+      let d = all-bytes (digits h 2) w (omega arith, (omega arith, tt)) refl ∙ sym (ap (digits h) two) in
+      filled-begins (digits h count ++ 58 ∷ []) [] buffer (e ∙ ap (λ l. filled 0 l buffer) (ap (λ l. l ++ 58 ∷ []) d ∙ sym (append-nil (digits h count ++ 58 ∷ []))))
+      (omega (arith, length-append (digits h count ++ 58 ∷ []) [], length-hours h count)) room
+
+  -- more of them: five and the colon in one number, without the first ones
+  pub many-hours :
+      h < 100000 → {four : ℕ} → four ≡ word (digits (h % 10000) 4) →
+      after ≡ filled 0 (bytesOf 7 ((58 * 1099511627776 + four * 256 + (48 + h / 10000)) / 2 ^ (8 * (5 - count))) ++ 0 ∷ []) buffer →
+      Begins (digits h count ++ 58 ∷ []) 8 buffer after
+  many-hours l {four} f e =
+      let text = digits h count ++ 58 ∷ [] in
+      let most : count ≤ 5 = omega (arith, two-to-five h) in
+      let k = 5 - count in
+      let w : 58 * 1099511627776 + four * 256 + (48 + h / 10000) ≡ word (digits h 5 ++ 58 ∷ []) =
+      omega (arith, f) ∙ ap (λ l. word (l ++ 58 ∷ [])) (five-digits h l) in
+      let a : AllLe 255 (digits h 5 ++ 58 ∷ []) = (omega arith, (omega arith, (omega arith, (omega arith, (omega arith, (omega arith, tt)))))) in
+      let s : k + count ≡ 5 = omega arith in
+      let cut : drop k (digits h 5 ++ 58 ∷ []) ≡ text =
+      drop-append-le k (digits h 5) (58 ∷ []) (omega arith) ∙ ap (λ l. l ++ 58 ∷ []) (ap (λ n. drop k (digits h n)) (sym s) ∙ drop-digits h k count) in
+      let n = (58 * 1099511627776 + four * 256 + (48 + h / 10000)) / 2 ^ (8 * k) in
+      let v : n ≡ word text = ap (λ w. w / 2 ^ (8 * k)) w ∙ word-drop (digits h 5 ++ 58 ∷ []) k a ∙ ap word cut in
+      let b : bytesOf (count + 1) n ≡ text = all-bytes text v (subst (AllLe 255) cut (drop-le 255 k (digits h 5 ++ 58 ∷ []) a)) (length-hours h count) in
+      let m = more-bytes (count + 1) (6 - count) n in
+      let t : 6 - count + (count + 1) ≡ 7 = omega arith in
+      let p : bytesOf 7 n ++ 0 ∷ [] ≡ text ++ (m .0 ++ 0 ∷ []) =
+      ap (λ j. bytesOf j n ++ 0 ∷ []) (sym t) ∙ ap (λ l. l ++ 0 ∷ []) (m .1 .0 ∙ ap (λ l. l ++ m .0) b) ∙ append-assoc text (m .0) (0 ∷ []) in
+      filled-begins text (m .0 ++ 0 ∷ []) buffer (e ∙ ap (λ l. filled 0 l buffer) p)
+      (omega (arith, length-append text (m .0 ++ 0 ∷ []), length-append (m .0) (0 ∷ []), length-hours h count, m .1 .1)) room
+
+-- the clock behind the hours makes the label
+pub clock-behind :
+    (n : ℕ) (before : List ℕ) {count : ℕ} {between after : List ℕ} → count ≡ hourDigits (n / perHour) → Begins (digits (n / perHour) count ++ 58 ∷ []) 8 before between →
+    length between ≡ length before → count + 10 ≤ length before → after ≡ filled (count + 1) (clockOf n) between → after ≡ filled 0 (positionText n) before
+clock-behind n before {count} {between} c b l room e =
+    let h = n / perHour in
+    let text = digits h count ++ 58 ∷ [] in
+    let t = length-hours h count in
+    e ∙ ap (λ k. filled k (clockOf n) between) (sym t)
+    ∙ filled-over text (clockOf n) b (omega (arith, t)) (omega (arith, t, l)) (omega (arith, t))
+    ∙ ap (λ l. filled 0 l before) (append-snoc (digits h count) 58 (clockOf n) ∙ ap (λ k. digits h k ++ 58 ∷ clockOf n) c)

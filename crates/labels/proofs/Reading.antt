@@ -1,54 +1,168 @@
--- A label from its date and its time.
-use Prim.Native.Nat.{ℕ, _-_}
-use mathlib.Core.Path.{_≡_, refl, sym, ap, ap₂, _∙_}
+-- A label's date and the time behind it, tested and read in parts.
+use Prim.Native.Nat.{ℕ, zero, suc, _+_, _-_, _*_, _≤_, _<_}
+use mathlib.Core.Path.{_≡_, refl, sym, ap, ap₂, _∙_, subst}
 use mathlib.Core.Bool.{Bool, true, false, cond, _&&_}
-use mathlib.Core.List.{List, _++_}
+use mathlib.Core.List.{List, [], _∷_, _++_}
 use native.Mathlib.Omega.{arith}
-use lib.IntN.{pos}
-use lib.ListN.{length, take, drop, length-drop}
-use lib.Seq.{take-all, take-take}
+use lib.ListN.{length, getD, take, drop, replicate, length-drop, length-replicate, drop-of-length-le}
+use lib.Seq.{take-all, drop-cons, length-take-le}
 use Rattle.refusal.specs.Outcome.{refused}
-use Rattle.instant.specs.Answers.{joinAnswer}
-use Rattle.labels.specs.Digits.{number, fits}
-use Rattle.labels.specs.Rfc3339.{decimals, dateShape, timeShape, readFields, readAnswer}
-use Rattle.labels.specs.Pairs.{readDate, readTime}
-use Rattle.labels.specs.declared.rfc3339.CivilDate.the-variants as C
-use Rattle.labels.specs.declared.rfc3339.Time.the-variants.{Read, Malformed}
-use Rattle.labels.proofs.Shapes.{uneven, fits-append}
-use Rattle.labels.proofs.ReadPairs.{part-number}
-use Rattle.labels.proofs.ReadDate.{date-malformed, date-read}
-use Rattle.labels.proofs.ReadTime.{time-malformed, time-read}
+use Rattle.labels.specs.Digits.{digits, number, numberAt, fitsOne, fits}
+use Rattle.labels.specs.Rfc3339.{labelLength, decimals, dateShape, timeShape, readFields, readAnswer}
+use Rattle.labels.specs.Words.{partOf, readValues, pairOf, numberOf}
+use Rattle.labels.specs.Parts.{joined, readTime}
+use Rattle.labels.proofs.Decimal.{and-left, and-right}
+use Rattle.labels.proofs.Shapes.{uneven, fits-from, zeros}
+use Rattle.labels.proofs.Words.{part-length}
+use Rattle.labels.proofs.ReadValues.{ValuesRead, number-four, mark-number, part-number}
 
--- the rest of a text as a part of it
+-- the shapes of the code, and what is left of a label behind its date
+abbrev pub toMonth : List ℕ
+toMonth = 48 ∷ 48 ∷ 48 ∷ 48 ∷ 45 ∷ 48 ∷ 48 ∷ 45 ∷ []
+
+abbrev pub day : List ℕ
+day = 48 ∷ 48 ∷ []
+
+abbrev pub toSecond : List ℕ
+toSecond = 48 ∷ 48 ∷ 58 ∷ 48 ∷ 48 ∷ 58 ∷ 48 ∷ 48 ∷ []
+
+abbrev pub fraction : (decimals : ℕ) → List ℕ
+fraction decimals = 46 ∷ replicate decimals 48
+
 pub rest-is : (n : ℕ) (text : List ℕ) → take (length text - n) (drop n text) ≡ drop n text
 rest-is n text = take-all (length text - n) (drop n text) (omega (arith, length-drop n text))
 
-module _ (label : List ℕ) where
-  parts :
-      (a b : Bool) → fits dateShape (take 10 label) ≡ a → fits (timeShape decimals) (drop 10 label) ≡ b →
-      readAnswer label ≡ cond (a && b) (readFields label (drop 10 label)) (refused 8)
-  unfolding readAnswer
-  parts a b p q = ap (λ t. cond t (readFields label (drop 10 label)) (refused 8)) (fits-append dateShape (timeShape decimals) label ∙ ap₂ _&&_ p q)
+-- as many decimals as are wanted, of six
+some-decimals : (count : ℕ) → count ≤ 6 → take (1 + count) (fraction 6) ≡ fraction count
+some-decimals count h = let e : 1 + count ≡ suc count = omega arith in ap (λ n. take n (fraction 6)) e ∙ ap (λ (l : List ℕ). 46 ∷ l) (go count 6 h)
+  where
+    go : (count most : ℕ) → count ≤ most → _≡_ {A = List ℕ} (take count (replicate most 48)) (replicate count 48)
+    go zero most h = refl
+    go (suc count) zero h = absurd (omega arith)
+    go (suc count) (suc most) h = ap (λ (l : List ℕ). 48 ∷ l) (go count most (omega arith))
 
-  pub wrong-length : (length label ≡ 24 → ⊥) → refused 8 ≡ readAnswer label
+pub fraction-length : (count : ℕ) → length (fraction count) ≡ suc count
+fraction-length count = ap suc (length-replicate {A = ℕ} count 48)
+
+-- what the code holds against the decimals, and where
+pub decimals-read :
+    (count : ℕ) (part : List ℕ) → count ≤ 6 →
+    readValues (take (1 + count) (fraction 6)) (partOf 9 (length (take (1 + count) (fraction 6))) part) ≡ readValues (fraction count) (partOf 9 (1 + count) part)
+decimals-read count part h =
+    let n : length (take (1 + count) (fraction 6)) ≡ 1 + count = length-take-le (1 + count) (fraction 6) (omega arith) in
+    ap₂ (λ s n. readValues s (partOf 9 n part)) (some-decimals count h) n
+
+-- ---- the date
+
+module _ (label : List ℕ) where
+  by-date : (a b : Bool) → fits toMonth (partOf 0 8 label) ≡ a → fits day (partOf 8 2 label) ≡ b →
+      readAnswer label ≡ cond (a && (b && fits (timeShape decimals) (drop 10 label))) (readFields label (drop 10 label)) (refused 8)
+  unfolding readAnswer
+  by-date a b p q =
+      ap (λ t. cond t (readFields label (drop 10 label)) (refused 8))
+      (fits-from toMonth (day ++ timeShape decimals) label 0
+      ∙ ap₂ _&&_ p (fits-from day (timeShape decimals) label 8 ∙ ap (λ t. t && fits (timeShape decimals) (drop 10 label)) q))
+
+  pub wrong-length : (length label ≡ labelLength → ⊥) → refused 8 ≡ readAnswer label
   unfolding readAnswer
   wrong-length h = sym (ap (λ t. cond t (readFields label (drop 10 label)) (refused 8)) (uneven (dateShape ++ timeShape decimals) label (λ e. h (sym e))))
 
-  pub wrong-date : C.Malformed ≡ readDate (take 10 label) → refused 8 ≡ readAnswer label
-  wrong-date e = sym (parts false (fits (timeShape decimals) (drop 10 label)) (date-malformed (take 10 label) e) refl)
+  pub wrong-month : fits toMonth (partOf 0 8 label) ≡ false → refused 8 ≡ readAnswer label
+  wrong-month p = sym (by-date false (fits day (partOf 8 2 label)) p refl)
 
-  pub wrong-time : (year month day : ℕ) → C.Read year month day ≡ readDate (take 10 label) → Malformed ≡ readTime decimals (drop 10 label) → refused 8 ≡ readAnswer label
-  wrong-time year month day d e = sym (parts true false (date-read (take 10 label) year month day d .shape) (time-malformed decimals (drop 10 label) e))
+  pub wrong-day : fits toMonth (partOf 0 8 label) ≡ true → fits day (partOf 8 2 label) ≡ false → refused 8 ≡ readAnswer label
+  wrong-day p q = sym (by-date true false p q)
 
-  pub read-whole :
-      (year month day hour minute second fraction : ℕ) → length label ≡ 24 → C.Read year month day ≡ readDate (take 10 label) →
-      Read hour minute second fraction ≡ readTime decimals (drop 10 label) →
-      joinAnswer (pos year) (pos month) (pos day) (pos hour) (pos minute) (pos second) (pos fraction) ≡ readAnswer label
-  read-whole year month day hour minute second fraction l f e =
-      let d = date-read (take 10 label) year month day f in
-      let t = time-read decimals (drop 10 label) hour minute second fraction e in
-      let y = d .year-is ∙ ap number (take-take 4 10 label (omega arith)) in
-      let m = d .month-is ∙ part-number label 10 0 5 (omega arith) (omega arith) in
-      let k = d .day-is ∙ part-number label 10 0 8 (omega arith) (omega arith) in
-      (λ i. joinAnswer (pos (y i)) (pos (m i)) (pos (k i)) (pos (t .hour-is i)) (pos (t .minute-is i)) (pos (t .second-is i)) (pos (t .fraction-is i)))
-      ∙ sym (parts true true (d .shape) (t .shape))
+  pub date-read :
+      (front back : ℕ) → length label ≡ labelLength → ValuesRead toMonth (partOf 0 8 label) front → ValuesRead day (partOf 8 2 label) back →
+      readTime (100 * pairOf front 0 + pairOf front 2) (pairOf front 5) (pairOf back 0) decimals (take (length label - 10) (drop 10 label)) ≡ readAnswer label
+  date-read front back l f b =
+      let e = part-length 0 8 label (omega arith) in
+      let century = f .pair-is 0 (omega arith) (sym e) refl refl ∙ part-number label 8 0 0 (omega arith) (omega arith) in
+      let year = f .pair-is 2 (omega arith) (sym e) refl refl ∙ part-number label 8 0 2 (omega arith) (omega arith) in
+      let month = f .pair-is 5 (omega arith) (sym e) refl refl ∙ part-number label 8 0 5 (omega arith) (omega arith) in
+      let d = b .pair-is 0 (omega arith) (sym (part-length 8 2 label (omega arith))) refl refl ∙ part-number label 2 8 0 (omega arith) (omega arith) in
+      let both : 100 * pairOf front 0 + pairOf front 2 ≡ numberAt 0 4 label = ap₂ (λ c y. 100 * c + y) century year ∙ sym (number-four label (omega arith)) in
+      (λ i. readTime (both i) (month i) (d i) decimals (rest-is 10 label i))
+      ∙ sym (by-date true true (f .shape-fits) (b .shape-fits))
+
+-- ---- the time
+
+-- the shape of a time: a mark, the clock, the point and the decimals, and a mark at the end
+module _ (count : ℕ) (part : List ℕ) (l : length part ≡ 11 + count) where
+  last-mark : fits (90 ∷ []) (drop (10 + count) part) ≡ fitsOne 90 (getD part (10 + count) 0)
+  last-mark =
+      let h : 10 + count < length part = omega arith in
+      let k : length part ≤ suc (10 + count) = omega arith in
+      ap (fits (90 ∷ [])) (drop-cons part (10 + count) 0 h)
+      ∙ ap (λ r. fitsOne 90 (getD part (10 + count) 0) && fits [] r) (drop-of-length-le part k)
+      ∙ and-true (fitsOne 90 (getD part (10 + count) 0))
+    where
+      and-true : (a : Bool) → a && true ≡ a
+      and-true true = refl
+      and-true false = refl
+
+  time-by-parts :
+      fits (timeShape count) part
+      ≡ fitsOne 84 (getD part 0 0)
+      && (fits toSecond (partOf 1 8 part) && (fits (fraction count) (partOf 9 (1 + count) part) && fitsOne 90 (getD part (10 + count) 0)))
+  time-by-parts =
+      let h : 0 < length part = omega arith in
+      let s : length (fraction count) ≡ 1 + count = omega (arith, fraction-length count) in
+      let e : 9 + length (fraction count) ≡ 10 + count = omega arith in
+      ap (fits (timeShape count)) (drop-cons part 0 0 h)
+      ∙ ap (λ t. fitsOne 84 (getD part 0 0) && t)
+      (fits-from toSecond (46 ∷ digits 0 count ++ 90 ∷ []) part 1
+      ∙ ap (λ t. fits toSecond (partOf 1 8 part) && t)
+      (ap (λ z. fits (46 ∷ z ++ 90 ∷ []) (drop 9 part)) (zeros count)
+      ∙ fits-from (fraction count) (90 ∷ []) part 9
+      ∙ ap₂ (λ n k. fits (fraction count) (partOf 9 n part) && fits (90 ∷ []) (drop k part)) s e
+      ∙ ap (λ t. fits (fraction count) (partOf 9 (1 + count) part) && t) last-mark))
+
+  pub record TimeFits : Type 0 where
+    pub first-mark : fitsOne 84 (getD part 0 0) ≡ true
+    pub clock-fits : fits toSecond (partOf 1 8 part) ≡ true
+    pub fraction-fits : fits (fraction count) (partOf 9 (1 + count) part) ≡ true
+    pub last-mark-fits : fitsOne 90 (getD part (10 + count) 0) ≡ true
+
+  all-parts : fits (timeShape count) part ≡ true → TimeFits
+  all-parts f =
+      let a = sym time-by-parts ∙ f in
+      let b = and-right (fitsOne 84 (getD part 0 0)) _ a in
+      let c = and-right (fits toSecond (partOf 1 8 part)) _ b in
+      record {
+        first-mark = and-left (fitsOne 84 (getD part 0 0)) _ a;
+        clock-fits = and-left (fits toSecond (partOf 1 8 part)) _ b;
+        fraction-fits = and-left (fits (fraction count) (partOf 9 (1 + count) part)) _ c;
+        last-mark-fits = and-right (fits (fraction count) (partOf 9 (1 + count) part)) _ c;
+      }
+
+  -- a part that does not fit, and one all of whose parts do
+  pub no-time : (year month day : ℕ) → (TimeFits → ⊥) → refused 8 ≡ readTime year month day count part
+  no-time year month day never = go (fits (timeShape count) part) refl
+    where
+      go : (t : Bool) → fits (timeShape count) part ≡ t →
+          refused 8 ≡ cond t (joined year month day (numberAt 1 2 part) (numberAt 4 2 part) (numberAt 7 2 part) (numberAt 10 count part)) (refused 8)
+      go true f = absurd (never (all-parts f))
+      go false f = refl
+
+  decimals-are : {v : ℕ} → ValuesRead (fraction count) (partOf 9 (1 + count) part) v → numberOf v (1 + count) ≡ numberAt 10 count part
+  decimals-are {v} r =
+      let h : 9 < length part = omega arith in
+      let n : 1 + count ≡ suc count = omega arith in
+      let p : partOf 9 (1 + count) part ≡ getD part 9 0 ∷ partOf 10 count part = ap (λ n. take n (drop 9 part)) n ∙ ap (take (suc count)) (drop-cons part 9 0 h) in
+      ap (numberOf v) n
+      ∙ mark-number 46 (getD part 9 0) count (partOf 10 count part) refl (part-length 10 count part (omega arith)) (subst (λ t. ValuesRead (fraction count) t v) p r)
+
+  pub time-read :
+      (year month day clock f : ℕ) → fitsOne 84 (getD part 0 0) ≡ true → fitsOne 90 (getD part (10 + count) 0) ≡ true →
+      ValuesRead toSecond (partOf 1 8 part) clock → ValuesRead (fraction count) (partOf 9 (1 + count) part) f →
+      joined year month day (pairOf clock 0) (pairOf clock 3) (pairOf clock 6) (numberOf f (1 + count)) ≡ readTime year month day count part
+  time-read year month day clock f t z r q =
+      let e = sym (part-length 1 8 part (omega arith)) in
+      let hour = r .pair-is 0 (omega arith) e refl refl ∙ part-number part 8 1 0 (omega arith) (omega arith) in
+      let minute = r .pair-is 3 (omega arith) e refl refl ∙ part-number part 8 1 3 (omega arith) (omega arith) in
+      let second = r .pair-is 6 (omega arith) e refl refl ∙ part-number part 8 1 6 (omega arith) (omega arith) in
+      let whole = time-by-parts ∙ ap₂ _&&_ t (ap₂ _&&_ (r .shape-fits) (ap₂ _&&_ (q .shape-fits) z)) in
+      (λ i. joined year month day (hour i) (minute i) (second i) (decimals-are q i))
+      ∙ sym (ap (λ t. cond t (joined year month day (numberAt 1 2 part) (numberAt 4 2 part) (numberAt 7 2 part) (numberAt 10 count part)) (refused 8)) whole)

@@ -9,6 +9,7 @@ use lib.ListN.{length, take, drop, replicate, take-append-drop}
 use lib.Seq.{drop-drop}
 use Rattle.numbers.proofs.Integers.{no-both}
 use Rattle.labels.specs.Digits.{digits, number, isDigit, fitsOne, fits}
+use Rattle.labels.specs.Words.{partOf}
 use Rattle.labels.proofs.Decimal.{and-left, and-right, is-digit, allDigits, digits-number, length-digits}
 
 and-no : (a : Bool) → a && false ≡ false
@@ -32,6 +33,11 @@ pub fits-append : (a b text : List ℕ) → fits (a ++ b) text ≡ fits a (take 
 fits-append [] b text = refl
 fits-append (s ∷ a) b [] = refl
 fits-append (s ∷ a) b (x ∷ text) = ap (λ t. fitsOne s x && t) (fits-append a b text) ∙ and-assoc (fitsOne s x) _ _
+
+-- the same from byte i of a text on
+pub fits-from :
+    (shape more text : List ℕ) (i : ℕ) → fits (shape ++ more) (drop i text) ≡ fits shape (partOf i (length shape) text) && fits more (drop (i + length shape) text)
+fits-from shape more text i = fits-append shape more (drop i text) ∙ ap (λ l. fits shape (partOf i (length shape) text) && fits more l) (drop-drop (length shape) i text)
 
 -- ---- a shape of digits
 

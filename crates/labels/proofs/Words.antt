@@ -1,16 +1,16 @@
 -- Bytes as one number, and its bytes again.
 use Prim.Native.Nat.{ℕ, zero, suc, _+_, _-_, _*_, _/_, _%_, _^_, _≤_, _<_}
-use mathlib.Core.Path.{_≡_, sym, ap, _∙_}
-use mathlib.Core.List.{List, [], _∷_}
+use mathlib.Core.Path.{_≡_, refl, sym, ap, ap₂, _∙_}
+use mathlib.Core.List.{List, [], _∷_, _++_, append-assoc, append-nil}
 use native.Mathlib.Nat.{zero-div, pow-zero, pow-suc, pow-le-pow-right}
 use native.Mathlib.Omega.{arith}
 use lib.Dec.{lit<}
-use lib.ListN.{length, getD, drop, replicate, drop-of-length-le}
-use lib.Seq.{drop-cons}
+use lib.ListN.{length, getD, take, drop, replicate, length-append, length-drop}
+use lib.Seq.{take-suc, take-length, drop-cons, drop-length, length-take-le, getD-take, getD-drop}
 use lib.Pow.{shr-shr}
 use mir.Syntax.{w8}
 use mir.Val.{Fits}
-use Rattle.labels.specs.Words.{word, byteOf}
+use Rattle.labels.specs.Words.{word, byteOf, bytesOf, partOf}
 
 -- no number of a list is above a limit
 abbrev pub AllLe : (limit : ℕ) → List ℕ → Type 0
@@ -29,43 +29,110 @@ word-le limit (n ∷ ns) (suc k) h a =
     let b = a .0 in
     omega arith
 
+pub drop-le : (limit n : ℕ) (l : List ℕ) → AllLe limit l → AllLe limit (drop n l)
+drop-le limit zero l a = a
+drop-le limit (suc n) [] a = tt
+drop-le limit (suc n) (x ∷ l) a = drop-le limit n l (a .1)
+
 -- ---- the bytes of a number
 
-rest-of : (n b k : ℕ) → b ≤ 255 → byteOf (n * 256 + b) (suc k) ≡ byteOf n k
-rest-of n b k h =
+shift : (n b k : ℕ) → b ≤ 255 → (n * 256 + b) / 2 ^ (8 * suc k) ≡ n / 2 ^ (8 * k)
+shift n b k h =
     let q : (n * 256 + b) / 256 ≡ n = omega arith in
     let e : 8 * suc k ≡ 8 + 8 * k = omega arith in
-    ap (λ j. (n * 256 + b) / 2 ^ j % 256) e
-    ∙ ap (λ m. m % 256) (sym (shr-shr (n * 256 + b) 8 (8 * k)) ∙ ap (λ m. m / 2 ^ (8 * k)) q)
+    ap (λ j. (n * 256 + b) / 2 ^ j) e ∙ sym (shr-shr (n * 256 + b) 8 (8 * k)) ∙ ap (λ m. m / 2 ^ (8 * k)) q
 
 pub byte-at : (l : List ℕ) (k : ℕ) → AllLe 255 l → byteOf (word l) k ≡ getD l k 0
 byte-at [] k a = ap (λ m. m % 256) (zero-div (2 ^ (8 * k)))
 byte-at (b ∷ bs) zero a = let h = a .0 in omega arith
-byte-at (b ∷ bs) (suc k) a = rest-of (word bs) b k (a .0) ∙ byte-at bs k (a .1)
+byte-at (b ∷ bs) (suc k) a = ap (λ m. m % 256) (shift (word bs) b k (a .0)) ∙ byte-at bs k (a .1)
 
--- the bytes of a number that is put together from bytes
-pub bytes-back : {n : ℕ} (l : List ℕ) → n ≡ word l → AllLe 255 l → (k : ℕ) → byteOf n k ≡ getD l k 0
-bytes-back l e a k = ap (λ n. byteOf n k) e ∙ byte-at l k a
+-- a number without its lowest bytes
+pub word-drop : (l : List ℕ) (k : ℕ) → AllLe 255 l → word l / 2 ^ (8 * k) ≡ word (drop k l)
+word-drop l zero a = omega arith
+word-drop [] (suc k) a = zero-div (2 ^ (8 * suc k))
+word-drop (b ∷ bs) (suc k) a = shift (word bs) b k (a .0) ∙ word-drop bs k (a .1)
 
--- ---- a text read from its end, byte i - 1 in front of those from i on
+pub length-bytes : (count n : ℕ) → length (bytesOf count n) ≡ count
+length-bytes zero n = refl
+length-bytes (suc count) n = length-append (bytesOf count n) _ ∙ omega (arith, length-bytes count n)
 
-module _ (l : List ℕ) (i : ℕ) (low : 1 ≤ i) (high : i ≤ length l) where
-  pub byte-before : drop (i - 1) l ≡ getD l (i - 1) 0 ∷ drop i l
-  byte-before =
-      let h : i - 1 < length l = omega arith in
-      let e : suc (i - 1) ≡ i = omega arith in
-      drop-cons l (i - 1) 0 h ∙ ap (λ j. getD l (i - 1) 0 ∷ drop j l) e
+-- the first bytes of such a number
+pub first-bytes : (l : List ℕ) (k : ℕ) → k ≤ length l → AllLe 255 l → bytesOf k (word l) ≡ take k l
+first-bytes l zero h a = refl
+first-bytes l (suc k) h a =
+    ap₂ (λ front byte. front ++ byte ∷ []) (first-bytes l k (omega arith) a) (byte-at l k a) ∙ sym (take-suc l k 0 h)
 
-  pub room : length l ≤ 8 → 256 ^ (length l - i) ≤ 72057594037927936
-  room h = let k : length l - i ≤ 7 = omega arith in pow-le-pow-right {n = 256} (lit< tt) k
+pub all-bytes : {n count : ℕ} (l : List ℕ) → n ≡ word l → AllLe 255 l → length l ≡ count → bytesOf count n ≡ l
+all-bytes l e a h = ap₂ bytesOf (sym h) e ∙ first-bytes l (length l) (omega arith) a ∙ take-length l
 
-  pub still-below : {n b : ℕ} → n < 256 ^ (length l - i) → b ≤ 255 → n * 256 + b < 256 ^ (length l - (i - 1))
-  still-below h k =
-      let e : length l - (i - 1) ≡ suc (length l - i) = omega arith in
-      omega (arith, ap (λ j. 256 ^ j) e ∙ pow-suc 256 (length l - i))
+-- more bytes are the first ones and others
+pub more-bytes : (a k n : ℕ) → (more : List ℕ) × ((bytesOf (k + a) n ≡ bytesOf a n ++ more) × (length more ≡ k))
+more-bytes a zero n = let e : 0 + a ≡ a = omega arith in ([], (ap (λ k. bytesOf k n) e ∙ sym (append-nil (bytesOf a n)), refl))
+more-bytes a (suc k) n =
+    let m = more-bytes a k n in
+    let e : suc k + a ≡ suc (k + a) = omega arith in
+    let byte = byteOf n (k + a) in (
+      m .0 ++ byte ∷ [],
+      (
+        ap (λ k. bytesOf k n) e ∙ ap (λ l. l ++ byte ∷ []) (m .1 .0) ∙ append-assoc (bytesOf a n) (m .0) (byte ∷ []),
+        length-append (m .0) (byte ∷ []) ∙ omega (arith, m .1 .1),
+      ),
+    )
 
-pub nothing-behind : (l : List ℕ) → drop (length l) l ≡ []
-nothing-behind l = let h : length l ≤ length l = omega arith in drop-of-length-le l h
+-- ---- a part of a text
 
-pub none-below : (size : ℕ) → 0 < 256 ^ (size - size)
-none-below size = let e : size - size ≡ 0 = omega arith in omega (arith, ap (λ k. 256 ^ k) e ∙ pow-zero 256)
+pub part-length : (at count : ℕ) (text : List ℕ) → at + count ≤ length text → length (partOf at count text) ≡ count
+part-length at count text h = length-take-le count (drop at text) (omega (arith, length-drop at text))
+
+pub part-at : (at count : ℕ) (text : List ℕ) (i : ℕ) → i < count → getD (partOf at count text) i 0 ≡ getD text (at + i) 0
+part-at at count text i h = getD-take count (drop at text) i 0 h ∙ getD-drop at text i 0
+
+pub part-whole : (text : List ℕ) → partOf 0 (length text) text ≡ text
+part-whole text = take-length text
+
+pub part-le : (limit at count : ℕ) (text : List ℕ) → AllLe limit text → AllLe limit (partOf at count text)
+part-le limit at count text a = take-le count (drop at text) (drop-le limit at text a)
+  where
+    take-le : (n : ℕ) (l : List ℕ) → AllLe limit l → AllLe limit (take n l)
+    take-le zero l a = tt
+    take-le (suc n) [] a = tt
+    take-le (suc n) (x ∷ l) a = (a .0, take-le n l (a .1))
+
+-- ---- a list of at most eight bytes made a number from its end
+
+-- n is the number of the bytes from i on
+pub record Made (l : List ℕ) (count n i : ℕ) : Type 0 where
+  pub within : i ≤ count
+  pub made : n ≡ word (drop i l)
+  pub below : n < 256 ^ (count - i)
+
+pub none-made : (l : List ℕ) {count : ℕ} → length l ≡ count → Made l count 0 count
+none-made l {count} e =
+    let z : count - count ≡ 0 = omega arith in
+    record {
+      within = omega arith;
+      made = ap word (sym (ap (λ i. drop i l) (sym e) ∙ drop-length l));
+      below = omega (arith, ap (λ k. 256 ^ k) z ∙ pow-zero 256);
+    }
+
+pub all-made : {l : List ℕ} {count n i : ℕ} → Made l count n i → i ≤ 0 → n ≡ word l
+all-made {l} {i = i} m h = let z : i ≡ 0 = omega arith in m .made ∙ ap (λ i. word (drop i l)) z
+
+pub room : {l : List ℕ} {count n i : ℕ} → Made l count n i → 1 ≤ i → count ≤ 8 → n < 72057594037927936
+room {count = count} {i = i} m low h =
+    let k : count - i ≤ 7 = omega arith in
+    omega (arith, m .below, pow-le-pow-right {n = 256} (lit< tt) k)
+
+pub more-made :
+    {l : List ℕ} {count n i b : ℕ} → Made l count n i → length l ≡ count → 1 ≤ i → b ≡ getD l (i - 1) 0 → b ≤ 255 → Made l count (n * 256 + b) (i - 1)
+more-made {l} {count} {i = i} m size low e h =
+    let j : i - 1 < length l = omega (arith, m .within) in
+    let s : suc (i - 1) ≡ i = omega arith in
+    let d : drop (i - 1) l ≡ getD l (i - 1) 0 ∷ drop i l = drop-cons l (i - 1) 0 j ∙ ap (λ j. getD l (i - 1) 0 ∷ drop j l) s in
+    let p : count - (i - 1) ≡ suc (count - i) = omega (arith, m .within) in
+    record {
+      within = omega (arith, m .within);
+      made = ap₂ (λ n b. n * 256 + b) (m .made) e ∙ sym (ap word d);
+      below = omega (arith, m .below, ap (λ j. 256 ^ j) p ∙ pow-suc 256 (count - i));
+    }

@@ -7,6 +7,7 @@ use lib.IntN.{ℤ, pos, natAbs}
 use Rattle.refusal.specs.Outcome.{Outcome, value, refused}
 use Rattle.numbers.specs.Range.{outside}
 use Rattle.labels.specs.Digits.{digits}
+use Rattle.labels.specs.Clock.{clockText}
 
 abbrev pub lastPosition : ℤ
 lastPosition = pos 359999999999
@@ -15,12 +16,23 @@ lastPosition = pos 359999999999
 abbrev pub hourDigits : (hours : ℕ) → ℕ
 hourDigits hours = cond (ltb hours 100) 2 (cond (ltb hours 1000) 3 (cond (ltb hours 10000) 4 5))
 
--- `:MM:SS.mmm` of a position of n milliseconds; 58 is `:` and 46 is `.`
-abbrev pub afterHours : (n : ℕ) → List ℕ
-afterHours n = 58 ∷ digits (n % 3600000 / 60000) 2 ++ 58 ∷ digits (n % 60000 / 1000) 2 ++ 46 ∷ digits (n % 1000) 3
+-- milliseconds to the hour, the minute and the second
+abbrev pub perHour : ℕ
+perHour = 3600000
 
+abbrev pub perMinute : ℕ
+perMinute = 60000
+
+abbrev pub perSecond : ℕ
+perSecond = 1000
+
+-- `MM:SS.mmm` of a position of n milliseconds
+abbrev pub clockOf : (n : ℕ) → List ℕ
+clockOf n = clockText 3 (n % perHour / perMinute) (n % perMinute / perSecond) (n % perSecond)
+
+-- 58 is `:`
 abbrev pub positionText : (n : ℕ) → List ℕ
-positionText n = digits (n / 3600000) (hourDigits (n / 3600000)) ++ afterHours n
+positionText n = digits (n / perHour) (hourDigits (n / perHour)) ++ 58 ∷ clockOf n
 
 -- 6 for a position outside 0..359999999999, else its label
 unfoldable pub positionLabel : (position : ℤ) → Outcome (List ℕ)

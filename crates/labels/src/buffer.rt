@@ -1,23 +1,21 @@
-// The copy into a lent buffer that both writers share.
+// Bytes stored into a lent buffer.
 
-use crate::WriteAnswer;
-use refusal::Refusal;
 ghost use mathlib.Core.Path.{_≡_};
-ghost use Rattle.refusal.specs.Outcome.{value};
-ghost use Rattle.labels.specs.Written.{writeOutcome, bytesWritten, writtenBuffer};
+ghost use Prim.Native.Nat.{_+_, _≤_, _<_};
+ghost use mathlib.Core.List.{[], _∷_, _++_};
+ghost use lib.ListN.{length};
+ghost use Rattle.labels.specs.Words.{bytesOf};
+ghost use Rattle.labels.specs.Filled.{filled};
 
-// Fills the front of `out` with `label`. 7 for a buffer shorter than the label, which then is unchanged.
-pub fn put(out: &mut [u8], label: &[u8]) -> WriteAnswer
-    ensures answer { λ r. ⌜ writeOutcome r ≡ bytesWritten (value (now (label .entry))) (now (out .entry)) ⌝ }
-    ensures buffer { λ r. ⌜ now (out .exit) ≡ writtenBuffer (value (now (label .entry))) (now (out .entry)) ⌝ }
+// Stores the first `count` bytes of a number, the lowest first, from byte `at` of a buffer on, and one more byte behind them.
+pub fn store(out: &mut [u8], at: usize, word: u64, count: usize, last: u8)
+    requires { ⌜ (count ≤ 8) × (at + count < length (now out)) ⌝ }
+    ensures { λ r. ⌜ now (out .exit) ≡ filled at (bytesOf count word ++ last ∷ []) (now (out .entry)) ⌝ }
 {
-    if out.len() < label.len() {
-        return WriteAnswer::Refused(Refusal::BufferTooShort);
-    }
     let mut i = 0;
-    while i < label.len() {
-        out[i] = label[i];
+    while i < count {
+        out[at + i] = ((word >> (8 * i)) % 256) as u8;
         i += 1;
     }
-    WriteAnswer::Written(i)
+    out[at + count] = last;
 }

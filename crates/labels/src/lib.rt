@@ -7,6 +7,7 @@
 use refusal::Refusal;
 
 mod buffer;
+mod clock;
 mod digits;
 pub mod rfc3339;
 pub mod webvtt;

@@ -2,22 +2,23 @@
 
 use crate::WriteAnswer;
 use crate::buffer;
+use crate::clock;
 use crate::digits;
 use crate::digits::COLON;
 use crate::digits::POINT;
 use crate::digits::Values;
-use crate::digits::ZERO;
 use instant::Fields;
 use instant::FieldsAnswer;
 use refusal::NumberAnswer;
 use refusal::Refusal;
 ghost use mathlib.Core.Path.{_≡_};
-ghost use Prim.Native.Nat.{_+_, _≤_};
+ghost use Prim.Native.Nat.{_+_, _^_, _≤_, _<_};
 ghost use lib.ListN.{length};
-ghost use Rattle.refusal.specs.Outcome.{numberOutcome};
+ghost use Rattle.refusal.specs.Outcome.{value, refused, numberOutcome};
 ghost use Rattle.labels.specs.Written.{writeOutcome, bytesWritten, writtenBuffer};
-ghost use Rattle.labels.specs.Rfc3339.{labelText, instantLabel, readAnswer};
-ghost use Rattle.labels.specs.Pairs.{Narrow, NarrowFields, spelledText, readDate, readTime};
+ghost use Rattle.labels.specs.Filled.{filled};
+ghost use Rattle.labels.specs.Rfc3339.{labelLength, numbersText, labelText, instantLabel, readAnswer};
+ghost use Rattle.labels.specs.Parts.{Narrow, NarrowFields, readTime, joinedClock};
 
 // The marks, beside colon and point.
 const DASH: u8 = b'-';
@@ -26,12 +27,14 @@ const T: u8 = b'T';
 
 const Z: u8 = b'Z';
 
-// The shapes of `YYYY-MM-`, `DD` and `HH:MM:SS`.
+// The shapes of `YYYY-MM-`, `DD`, `HH:MM:SS`, and of the decimals with the point in front.
 const TO_MONTH: [u8; 8] = [b'0', b'0', b'0', b'0', DASH, b'0', b'0', DASH];
 
 const DAY: [u8; 2] = [b'0', b'0'];
 
-const CLOCK: [u8; 8] = [b'0', b'0', COLON, b'0', b'0', COLON, b'0', b'0'];
+const TO_SECOND: [u8; 8] = [b'0', b'0', COLON, b'0', b'0', COLON, b'0', b'0'];
+
+const FRACTION: [u8; 7] = [POINT, b'0', b'0', b'0', b'0', b'0', b'0'];
 
 // How many decimals the seconds have, and how many bytes a label has.
 const DECIMALS: usize = 3;
@@ -47,20 +50,22 @@ pub fn write_instant(instant: i64, out: &mut [u8]) -> WriteAnswer
     ensures buffer { λ r. ⌜ now (out .exit) ≡ writtenBuffer (instantLabel instant) (now (out .entry)) ⌝ }
 {
     match instant::split_instant(instant) {
-        FieldsAnswer::Value(fields) => {
-            let label = label_of(fields);
-            buffer::put(out, &label)
-        }
+        FieldsAnswer::Value(fields) => write_fields(fields, out),
         FieldsAnswer::Refused(r) => WriteAnswer::Refused(r),
     }
 }
 
-// The label of an instant's fields.
-fn label_of(f: Fields) -> [u8; LENGTH]
+// Writes the label of an instant's fields. 7 for a buffer shorter than the label.
+fn write_fields(f: Fields, out: &mut [u8]) -> WriteAnswer
     requires { ⌜ NarrowFields f ⌝ }
-    ensures { λ r. ⌜ r ≡ labelText f ⌝ }
+    ensures answer { λ r. ⌜ writeOutcome r ≡ bytesWritten (value (labelText f)) (now (out .entry)) ⌝ }
+    ensures buffer { λ r. ⌜ now (out .exit) ≡ writtenBuffer (value (labelText f)) (now (out .entry)) ⌝ }
 {
-    spelled(
+    if out.len() < LENGTH {
+        return WriteAnswer::Refused(Refusal::BufferTooShort);
+    }
+    put_label(
+        out,
         f.year as u32,
         f.month as u32,
         f.day as u32,
@@ -68,51 +73,29 @@ fn label_of(f: Fields) -> [u8; LENGTH]
         f.minute as u32,
         f.second as u32,
         f.millisecond as u32,
-    )
+    );
+    WriteAnswer::Written(LENGTH)
 }
 
-// The label of fields that it has room for.
-fn spelled(
+// Fills the front of a buffer with the label of fields that have room in it.
+fn put_label(
+    out: &mut [u8],
     year: u32,
     month: u32,
     day: u32,
     hour: u32,
     minute: u32,
     second: u32,
-    millisecond: u32,
-) -> [u8; LENGTH]
-    requires { ⌜ Narrow year month day hour minute second millisecond ⌝ }
-    ensures { λ r. ⌜ r ≡ spelledText year month day hour minute second millisecond ⌝ }
+    fraction: u32,
+)
+    requires { ⌜ Narrow year month day hour minute second fraction × (labelLength ≤ length (now out)) ⌝ }
+    ensures { λ r. ⌜ now (out .exit) ≡ filled 0 (numbersText year month day hour minute second fraction) (now (out .entry)) ⌝ }
 {
-    let year = digits::four(year);
+    buffer::store(out, 0, digits::four(year), 4, DASH);
     let to_hour = digits::three_pairs(month, DASH, day, T, hour);
-    let to_decimals = digits::three_pairs(minute, COLON, second, POINT, millisecond / 10);
-    [
-        year[0],
-        year[1],
-        year[2],
-        year[3],
-        DASH,
-        to_hour[0],
-        to_hour[1],
-        to_hour[2],
-        to_hour[3],
-        to_hour[4],
-        to_hour[5],
-        to_hour[6],
-        to_hour[7],
-        COLON,
-        to_decimals[0],
-        to_decimals[1],
-        to_decimals[2],
-        to_decimals[3],
-        to_decimals[4],
-        to_decimals[5],
-        to_decimals[6],
-        to_decimals[7],
-        (ZERO + millisecond % 10) as u8,
-        Z,
-    ]
+    buffer::store(out, 5, to_hour, 8, COLON);
+    clock::put(out, 14, minute, second, fraction);
+    buffer::store(out, LENGTH - 1, 0, 0, Z);
 }
 
 // The instant of a label. 8 for a label of another shape, then the refusals of its fields: 2, 3, 5.
@@ -120,81 +103,77 @@ pub fn read_instant(label: &[u8]) -> NumberAnswer
     ensures { λ r. ⌜ numberOutcome r ≡ readAnswer (now (label .entry)) ⌝ }
 {
     if label.len() != LENGTH {
-        return NumberAnswer::Refused(Refusal::MalformedLabel);
+        return malformed();
     }
-    match read_date(&label[..TIME]) {
-        CivilDate::Read(year, month, day) => match read_time(&label[TIME..], DECIMALS) {
-            Time::Read(hour, minute, second, millisecond) => instant::join_instant(
-                year as i64,
-                month as i64,
-                day as i64,
-                hour as i64,
-                minute as i64,
-                second as i64,
-                millisecond as i64,
-            ),
-            Time::Malformed => NumberAnswer::Refused(Refusal::MalformedLabel),
-        },
-        CivilDate::Malformed => NumberAnswer::Refused(Refusal::MalformedLabel),
-    }
+    read_date(label)
 }
 
-enum CivilDate {
-    // year, month and day
-    Read(u32, u32, u32),
-    Malformed,
-}
-
-// The date of a label, `YYYY-MM-DD`.
-fn read_date(part: &[u8]) -> CivilDate
-    requires { ⌜ length (now part) ≡ 10 ⌝ }
-    ensures { λ r. ⌜ r ≡ readDate (now (part .entry)) ⌝ }
+// Reads the date, and has the time behind it read from the rest of the label.
+fn read_date(label: &[u8]) -> NumberAnswer
+    requires { ⌜ length (now label) ≡ labelLength ⌝ }
+    ensures { λ r. ⌜ numberOutcome r ≡ readAnswer (now (label .entry)) ⌝ }
 {
-    match digits::read_values(&TO_MONTH, &part[..8]) {
-        Values::Read(front) => match digits::read_values(&DAY, &part[8..]) {
-            Values::Read(back) => CivilDate::Read(
-                100 * digits::pair(front, 0) + digits::pair(front, 2),
-                digits::pair(front, 5),
-                digits::pair(back, 0),
-            ),
-            Values::Malformed => CivilDate::Malformed,
-        },
-        Values::Malformed => CivilDate::Malformed,
-    }
+    let Values::Read(front) = digits::read_values(&TO_MONTH, label, 0) else {
+        return malformed();
+    };
+    let Values::Read(back) = digits::read_values(&DAY, label, 8) else {
+        return malformed();
+    };
+    let year = 100 * digits::pair(front, 0) + digits::pair(front, 2);
+    read_time(
+        year,
+        digits::pair(front, 5),
+        digits::pair(back, 0),
+        &label[TIME..],
+        DECIMALS,
+    )
 }
 
-enum Time {
-    // hour, minute, second and the decimals of the second
-    Read(u32, u32, u32, u32),
-    Malformed,
-}
-
-// The time behind the date, `THH:MM:SS.` with some decimals and `Z`.
-fn read_time(part: &[u8], decimals: usize) -> Time
+// Reads the time behind a date, `THH:MM:SS.` with some decimals and `Z`.
+fn read_time(year: u32, month: u32, day: u32, part: &[u8], decimals: usize) -> NumberAnswer
     requires { ⌜ (decimals ≤ 6) × (length (now part) ≡ 11 + decimals) ⌝ }
-    ensures { λ r. ⌜ r ≡ readTime decimals (now (part .entry)) ⌝ }
+    ensures { λ r. ⌜ numberOutcome r ≡ readTime year month day decimals (now (part .entry)) ⌝ }
 {
     let end = 10 + decimals;
     if part[0] != T {
-        return Time::Malformed;
-    }
-    if part[9] != POINT {
-        return Time::Malformed;
+        return malformed();
     }
     if part[end] != Z {
-        return Time::Malformed;
+        return malformed();
     }
-    let zeros = [b'0'; 6];
-    match digits::read_values(&CLOCK, &part[1..9]) {
-        Values::Read(clock) => match digits::read_values(&zeros[..decimals], &part[10..end]) {
-            Values::Read(fraction) => Time::Read(
-                digits::pair(clock, 0),
-                digits::pair(clock, 3),
-                digits::pair(clock, 6),
-                digits::field(part, 10, decimals),
-            ),
-            Values::Malformed => Time::Malformed,
-        },
-        Values::Malformed => Time::Malformed,
-    }
+    let Values::Read(clock) = digits::read_values(&TO_SECOND, part, 1) else {
+        return malformed();
+    };
+    let Values::Read(fraction) = digits::read_values(&FRACTION[..1 + decimals], part, 9) else {
+        return malformed();
+    };
+    join(
+        year,
+        month,
+        day,
+        clock,
+        digits::number(fraction, 1 + decimals),
+    )
+}
+
+// The instant of a date, of the values of `HH:MM:SS` and of the decimals.
+fn join(year: u32, month: u32, day: u32, clock: u64, fraction: u32) -> NumberAnswer
+    requires { ⌜ clock < 2 ^ 60 ⌝ }
+    ensures { λ r. ⌜ numberOutcome r ≡ joinedClock year month day clock fraction ⌝ }
+{
+    instant::join_instant(
+        year as i64,
+        month as i64,
+        day as i64,
+        digits::pair(clock, 0) as i64,
+        digits::pair(clock, 3) as i64,
+        digits::pair(clock, 6) as i64,
+        fraction as i64,
+    )
+}
+
+fn malformed() -> NumberAnswer
+    ensures { λ r. ⌜ numberOutcome r ≡ refused 8 ⌝ }
+{
+    NumberAnswer::Refused(Refusal::MalformedLabel)
 }

@@ -2,18 +2,19 @@
 
 use crate::WriteAnswer;
 use crate::buffer;
+use crate::clock;
 use crate::digits;
 use crate::digits::COLON;
-use crate::digits::POINT;
 use crate::digits::ZERO;
 use refusal::Refusal;
 ghost use mathlib.Core.Path.{_≡_};
-ghost use Prim.Native.Nat.{_<_};
-ghost use mathlib.Core.List.{_++_};
+ghost use Prim.Native.Nat.{_+_, _≤_, _<_};
+ghost use mathlib.Core.List.{[], _∷_, _++_};
+ghost use lib.ListN.{length};
 ghost use Rattle.labels.specs.Written.{writeOutcome, bytesWritten, writtenBuffer};
-ghost use Rattle.labels.specs.Webvtt.{positionLabel};
+ghost use Rattle.labels.specs.Filled.{filled, Begins};
+ghost use Rattle.labels.specs.Webvtt.{hourDigits, clockOf, positionLabel};
 ghost use Rattle.labels.specs.Digits.{digits};
-ghost use Rattle.labels.specs.Pairs.{textAfter};
 
 const LAST_POSITION: i64 = 359999999999;
 
@@ -28,89 +29,70 @@ pub fn write_position(position: i64, out: &mut [u8]) -> WriteAnswer
     ensures answer { λ r. ⌜ writeOutcome r ≡ bytesWritten (positionLabel position) (now (out .entry)) ⌝ }
     ensures buffer { λ r. ⌜ now (out .exit) ≡ writtenBuffer (positionLabel position) (now (out .entry)) ⌝ }
 {
-    if position < 0 {
-        return WriteAnswer::Refused(Refusal::PositionOutOfRange);
-    }
-    if position > LAST_POSITION {
+    if numbers::outside(0, LAST_POSITION, position) {
         return WriteAnswer::Refused(Refusal::PositionOutOfRange);
     }
     let n = position as u64;
     let hours = (n / MS_PER_HOUR) as u32;
-    let rest = (n % MS_PER_HOUR) as u32;
-    if hours < 100 {
-        let text = shortest(hours, rest);
-        return buffer::put(out, &text);
+    let count = hour_digits(hours);
+    let length = count + 10;
+    if out.len() < length {
+        return WriteAnswer::Refused(Refusal::BufferTooShort);
     }
-    let text = widest(hours, rest);
+    put_hours(out, hours, count);
+    put_clock(out, count + 1, n);
+    WriteAnswer::Written(length)
+}
+
+// Writes the digits of the hours and a colon. Bytes behind them, up to byte 8, may change.
+fn put_hours(out: &mut [u8], hours: u32, count: usize)
+    requires { ⌜ ((hours < 100000) × (count ≡ hourDigits hours)) × (8 ≤ length (now out)) ⌝ }
+    ensures { λ r. ⌜ Begins (digits hours count ++ 58 ∷ []) 8 (now (out .entry)) (now (out .exit)) ⌝ }
+{
+    if hours < 100 {
+        buffer::store(
+            out,
+            0,
+            (0x3030 + hours % 10 * 256 + hours / 10) as u64,
+            2,
+            COLON,
+        );
+        return;
+    }
+    let text = COLON as u64 * 0x100_0000_0000
+        + digits::four(hours % 10000) * 256
+        + (ZERO + hours / 10000) as u64;
+    buffer::store(out, 0, text >> (8 * (5 - count)), 7, 0);
+}
+
+// Writes `MM:SS.mmm` of a position from byte `at` of a buffer on.
+fn put_clock(out: &mut [u8], at: usize, n: u64)
+    requires { ⌜ at + 9 ≤ length (now out) ⌝ }
+    ensures { λ r. ⌜ now (out .exit) ≡ filled at (clockOf n) (now (out .entry)) ⌝ }
+{
+    let rest = (n % MS_PER_HOUR) as u32;
+    let seconds = rest / MS_PER_SECOND;
+    clock::put(
+        out,
+        at,
+        seconds / SECONDS_PER_MINUTE,
+        seconds % SECONDS_PER_MINUTE,
+        rest % MS_PER_SECOND,
+    );
+}
+
+// How many digits the hours have: two at least.
+fn hour_digits(hours: u32) -> usize
+    ensures { λ r. ⌜ (r ≡ hourDigits hours) × (r ≤ 5) ⌝ }
+{
+    if hours < 100 {
+        return 2;
+    }
     if hours < 1000 {
-        return buffer::put(out, &text[2..]);
+        return 3;
     }
     if hours < 10000 {
-        return buffer::put(out, &text[1..]);
+        return 4;
     }
-    buffer::put(out, &text)
-}
-
-// The label with two digits of hours, from the hours and the milliseconds after them.
-fn shortest(hours: u32, rest: u32) -> [u8; 12]
-    requires { ⌜ (hours < 100) × (rest < 3600000) ⌝ }
-    ensures { λ r. ⌜ r ≡ digits hours 2 ++ textAfter rest ⌝ }
-{
-    let seconds = rest / MS_PER_SECOND;
-    let clock = digits::three_pairs(
-        hours,
-        COLON,
-        seconds / SECONDS_PER_MINUTE,
-        COLON,
-        seconds % SECONDS_PER_MINUTE,
-    );
-    let ms = digits::four(rest % MS_PER_SECOND);
-    [
-        clock[0],
-        clock[1],
-        clock[2],
-        clock[3],
-        clock[4],
-        clock[5],
-        clock[6],
-        clock[7],
-        POINT,
-        ms[1],
-        ms[2],
-        ms[3],
-    ]
-}
-
-// The label with five digits of hours, from the hours and the milliseconds after them.
-fn widest(hours: u32, rest: u32) -> [u8; 15]
-    requires { ⌜ (hours < 100000) × (rest < 3600000) ⌝ }
-    ensures { λ r. ⌜ r ≡ digits hours 5 ++ textAfter rest ⌝ }
-{
-    let seconds = rest / MS_PER_SECOND;
-    let ms = rest % MS_PER_SECOND;
-    let last_hours = digits::four(hours % 10000);
-    let to_decimals = digits::three_pairs(
-        seconds / SECONDS_PER_MINUTE,
-        COLON,
-        seconds % SECONDS_PER_MINUTE,
-        POINT,
-        ms / 10,
-    );
-    [
-        (ZERO + hours / 10000) as u8,
-        last_hours[0],
-        last_hours[1],
-        last_hours[2],
-        last_hours[3],
-        COLON,
-        to_decimals[0],
-        to_decimals[1],
-        to_decimals[2],
-        to_decimals[3],
-        to_decimals[4],
-        to_decimals[5],
-        to_decimals[6],
-        to_decimals[7],
-        (ZERO + ms % 10) as u8,
-    ]
+    5
 }

@@ -1,10 +1,9 @@
--- The fields of an instant in the range have room in the label.
 use mathlib.Core.Path.{sym, ap, _∙_}
 use mir.Facts.{toZ-ofZ}
-use Rattle.refusal.specs.Outcome.{mapValue, value}
+use Rattle.refusal.specs.Outcome.{mapValue}
 use Rattle.instant.specs.Answers.{fieldsOutcome, splitAnswer}
 use Rattle.labels.specs.Rfc3339.{labelText, instantLabel}
-use Rattle.labels.proofs.Copy.{renamed, nothing-written}
+use Rattle.labels.proofs.Writing.{renamed, nothing-written}
 use Rattle.labels.proofs.Instants.{fields-narrow}
 use borrow.Author.Needs.{needs}
 use Rattle.labels.proofs.rfc3339.write_instant.Statement.{statement}
@@ -16,18 +15,12 @@ split-instant-requires c κs = search needs
 enum-known-fields : tie.Need-enum-known-fields
 enum-known-fields c = search needs
 
-label-of-requires : tie.Need-label-of-requires
-label-of-requires c κs =
-    let s = c .before .before .before .before .before in
-    let g = c .before .fields .given in
-    let e = ap fieldsOutcome (sym (g .1)) ∙ c .before .before .before .split-instant .ensures ∙ ap splitAnswer (toZ-ofZ (s .fits .instant)) in
+write-fields-requires : tie.Need-write-fields-requires
+write-fields-requires c κs =
+    let s = c .before .before .before .before .before .before in
+    let g = c .before .before .fields .given in
+    let e = ap fieldsOutcome (sym (g .1)) ∙ c .before .before .before .before .split-instant .ensures ∙ ap splitAnswer (toZ-ofZ (s .fits .instant)) in
     fields-narrow (s .args .instant) (g .0 .0) (sym e)
-
-slice-aggregate-put : tie.Need-slice-aggregate-put
-slice-aggregate-put c = search needs
-
-put-requires : tie.Need-put-requires
-put-requires c κs = search needs
 
 enum-known-r : tie.Need-enum-known-r
 enum-known-r c = search needs
@@ -38,10 +31,10 @@ same-length c = search needs
 returns : tie.Need-returns
 unfolding instantLabel
 returns c =
-    let s = c .before .before .before .before .before .before .before .before .before .before .before in
-    let g = c .before .before .before .before .before .before .before .fields .given in
-    let e = ap fieldsOutcome (sym (g .1)) ∙ c .before .before .before .before .before .before .before .before .before .split-instant .ensures ∙ ap splitAnswer (toZ-ofZ (s .fits .instant)) in
-    renamed (s .args .out .now) (ap value (c .before .before .before .before .before .label-of .ensures) ∙ ap (mapValue labelText) e) (c .before .before .put .ensures)
+    let s = c .before .before .before .before .before .before .before .before .before in
+    let g = c .before .before .before .before .before .fields .given in
+    let e = ap fieldsOutcome (sym (g .1)) ∙ c .before .before .before .before .before .before .before .split-instant .ensures ∙ ap splitAnswer (toZ-ofZ (s .fits .instant)) in
+    renamed (s .args .out .now) (ap (mapValue labelText) e) (c .before .before .write-fields .ensures)
 
 returns-2 : tie.Need-returns-2
 unfolding instantLabel
@@ -57,9 +50,7 @@ write-instant-spec =
     (tie.spec
     split-instant-requires
     enum-known-fields
-    label-of-requires
-    slice-aggregate-put
-    put-requires
+    write-fields-requires
     enum-known-r
     same-length
     returns

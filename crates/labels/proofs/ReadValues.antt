@@ -1,15 +1,18 @@
--- The numbers of two digits of a text, from the values of its bytes.
+-- The numbers of a text, from the values of its bytes.
 use Prim.Native.Nat.{ℕ, zero, suc, _+_, _-_, _*_, _/_, _≤_, _<_, _^_}
 use mathlib.Core.Path.{_≡_, refl, sym, ap, ap₂, _∙_}
 use mathlib.Core.Bool.{Bool, true, false, cond}
-use mathlib.Core.List.{List, [], _∷_}
+use mathlib.Core.List.{List, [], _∷_, _++_}
 use native.Mathlib.Omega.{arith}
-use lib.ListN.{length, getD, take, drop, length-drop}
-use lib.Seq.{drop-cons, getD-take, getD-drop, length-take-le}
-use Rattle.labels.specs.Digits.{number, numberAt, fits}
-use Rattle.labels.specs.Words.{word, byteOf, above, readValues, pairOf}
+use borrow.Author.Tests.{eqb-true}
+use lib.Dec.{eqb}
+use lib.ListN.{length, getD, take, drop, replicate, length-replicate}
+use lib.Seq.{drop-cons, take-suc, take-length}
+use Rattle.labels.specs.Digits.{number, numberFrom, numberAt, isDigit, fitsOne, fits}
+use Rattle.labels.specs.Words.{word, byteOf, partOf, above, readValues, pairOf, numberOf}
 use Rattle.labels.specs.declared.digits.Values.the-variants.{Read, Malformed}
-use Rattle.labels.proofs.Words.{AllLe, word-le, byte-at}
+use Rattle.labels.proofs.Words.{AllLe, word-le, byte-at, part-length, part-at}
+use Rattle.labels.proofs.Decimal.{and-left}
 use Rattle.labels.proofs.Gaps.{values-le}
 
 -- ---- pairs of values
@@ -48,6 +51,32 @@ pair-at (x ∷ xs) k a =
     ∙ byte-at (pairsOf (x ∷ xs)) k (pairs-le (x ∷ xs) a)
     ∙ pairs-at (x ∷ xs) k
 
+-- ---- the number that some values make
+
+abbrev valuesFrom : (so-far : ℕ) → List ℕ → ℕ
+valuesFrom so-far [] = so-far
+valuesFrom so-far (x ∷ xs) = valuesFrom (so-far * 10 + x) xs
+
+one-more : (n : ℕ) (xs : List ℕ) (x : ℕ) → valuesFrom n (xs ++ x ∷ []) ≡ valuesFrom n xs * 10 + x
+one-more n [] x = refl
+one-more n (y ∷ xs) x = one-more (n * 10 + y) xs x
+
+first-values : (xs : List ℕ) (k : ℕ) → k ≤ length xs → AllLe 255 xs → numberOf (word xs) k ≡ valuesFrom 0 (take k xs)
+first-values xs zero h a = refl
+first-values xs (suc k) h a =
+    ap₂ (λ n b. n * 10 + b) (first-values xs k (omega arith) a) (byte-at xs k a) ∙ sym (ap (valuesFrom 0) (take-suc xs k 0 h) ∙ one-more 0 (take k xs) (getD xs k 0))
+
+all-values : (xs : List ℕ) {count : ℕ} → length xs ≡ count → AllLe 255 xs → numberOf (word xs) count ≡ valuesFrom 0 xs
+all-values xs e a = ap (numberOf (word xs)) (sym e) ∙ first-values xs (length xs) (omega arith) a ∙ ap (valuesFrom 0) (take-length xs)
+
+-- the values of digits make their number
+digits-value : (n : ℕ) (text : List ℕ) {count : ℕ} → length text ≡ count → valuesFrom n (above (replicate count 48) text) ≡ numberFrom n text
+digits-value n text e = ap (λ count. valuesFrom n (above (replicate count 48) text)) (sym e) ∙ go n text
+  where
+    go : (n : ℕ) (text : List ℕ) → valuesFrom n (above (replicate (length text) 48) text) ≡ numberFrom n text
+    go n [] = refl
+    go n (b ∷ bs) = go (n * 10 + (b - 48)) bs
+
 -- ---- the numbers of a text
 
 pub number-two : (text : List ℕ) (at : ℕ) → at + 2 ≤ length text → numberAt at 2 text ≡ (getD text at 0 - 48) * 10 + (getD text (suc at) 0 - 48)
@@ -85,6 +114,7 @@ pub record ValuesRead (shape text : List ℕ) (v : ℕ) : Type 0 where
   pub shape-fits : fits shape text ≡ true
   pub small : v < 2 ^ 60
   pub pair-is : (k : ℕ) → suc k < length shape → length shape ≡ length text → getD shape k 0 ≡ 48 → getD shape (suc k) 0 ≡ 48 → pairOf v k ≡ numberAt k 2 text
+  pub values-are : v ≡ word (above shape text)
 
 module _ (shape text : List ℕ) where
   pub values-read : (v : ℕ) → length shape ≤ 8 → Read v ≡ readValues shape text → ValuesRead shape text v
@@ -102,6 +132,7 @@ module _ (shape text : List ℕ) where
                 (above-at shape text k (omega arith) (omega arith) ∙ ap (λ s. getD text k 0 - s) p)
                 (above-at shape text (suc k) (omega arith) (omega arith) ∙ ap (λ s. getD text (suc k) 0 - s) q)
                 ∙ sym (number-two text k (omega arith));
+            values-are = i;
           }
       go false f e = absurd (let z : _≡_ {A = ℕ} 0 1 = cc in omega arith)
 
@@ -112,13 +143,34 @@ module _ (shape text : List ℕ) where
       go true e = absurd (let z : _≡_ {A = ℕ} 0 1 = cc in omega arith)
       go false e = refl
 
+-- the number of the digits behind a mark, whose value is 0
+pub mark-number :
+    (mark byte count : ℕ) (text : List ℕ) {v : ℕ} → eqb mark 48 ≡ false → length text ≡ count → ValuesRead (mark ∷ replicate count 48) (byte ∷ text) v →
+    numberOf v (suc count) ≡ number text
+mark-number mark byte count text m l r =
+    let f = r .shape-fits in
+    let e : byte - mark ≡ 0 = omega (arith, eqb-true byte mark (sym (ap (λ d. cond d (isDigit byte) (eqb byte mark)) m) ∙ and-left (fitsOne mark byte) _ f)) in
+    let xs = above (mark ∷ replicate count 48) (byte ∷ text) in
+    ap (λ v. numberOf v (suc count)) (r .values-are)
+    ∙ all-values xs (ap suc (above-size (replicate count 48) text (omega (arith, length-replicate {A = ℕ} count 48)) ∙ l)) (lower xs (values-le (mark ∷ replicate count 48) (byte ∷ text) f))
+    ∙ ap (λ x. valuesFrom (0 * 10 + x) (above (replicate count 48) text)) e
+    ∙ digits-value 0 text l
+  where
+    above-size : (shape text : List ℕ) → length shape ≡ length text → length (above shape text) ≡ length text
+    above-size [] [] e = refl
+    above-size [] (b ∷ bs) e = absurd (omega arith)
+    above-size (s ∷ ss) [] e = absurd (omega arith)
+    above-size (s ∷ ss) (b ∷ bs) e = ap suc (above-size ss bs (omega arith))
+
+    lower : (xs : List ℕ) → AllLe 9 xs → AllLe 255 xs
+    lower [] a = tt
+    lower (x ∷ xs) a = let h = a .0 in (omega arith, lower xs (a .1))
+
 -- two digits of a part of a text
-pub part-number : (text : List ℕ) (size from at : ℕ) → at + 2 ≤ size → from + size ≤ length text → numberAt at 2 (take size (drop from text)) ≡ numberAt (from + at) 2 text
+pub part-number : (text : List ℕ) (size from at : ℕ) → at + 2 ≤ size → from + size ≤ length text → numberAt at 2 (partOf from size text) ≡ numberAt (from + at) 2 text
 part-number text size from at h l =
-    let e : size ≡ length (take size (drop from text)) = sym (length-take-le size (drop from text) (omega (arith, length-drop from text))) in
     let s : suc (from + at) ≡ from + suc at = omega arith in
-    number-two (take size (drop from text)) at (omega (arith, e))
-    ∙ ap₂ (λ x y. (x - 48) * 10 + (y - 48))
-    (getD-take size (drop from text) at 0 (omega arith) ∙ getD-drop from text at 0)
-    (getD-take size (drop from text) (suc at) 0 (omega arith) ∙ getD-drop from text (suc at) 0 ∙ sym (ap (λ i. getD text i 0) s))
+    number-two (partOf from size text) at (omega (arith, part-length from size text l))
+    ∙ ap₂ (λ x y. (x - 48) * 10 + (y - 48)) (part-at from size text at (omega arith))
+    (part-at from size text (suc at) (omega arith) ∙ sym (ap (λ i. getD text i 0) s))
     ∙ sym (number-two text (from + at) (omega arith))

@@ -1,0 +1,37 @@
+use Prim.Native.Nat.{_+_, _/_, _%_}
+use mathlib.Core.Path.{ap, _∙_}
+use mathlib.Core.List.{[], _∷_, _++_}
+use native.Mathlib.Omega.{arith}
+use Rattle.labels.specs.Filled.{filled}
+use Rattle.labels.proofs.Spelling.{pairs-stored}
+use borrow.Author.Needs.{needs}
+use Rattle.labels.proofs.clock.put.Statement.{statement}
+use Rattle.labels.proofs.clock.put.Tie as tie
+
+three-pairs-requires : tie.Need-three-pairs-requires
+three-pairs-requires c κs = search needs
+
+add-store : tie.Need-add-store
+add-store c = search needs
+
+cast-store : tie.Need-cast-store
+cast-store c = search needs
+
+store-requires : tie.Need-store-requires
+store-requires c κs = search needs
+
+same-length : tie.Need-same-length
+same-length c = search needs
+
+returns : tie.Need-returns
+returns c =
+    let s = c .before .before .before .before .before .before in
+    let a = s .args in
+    c .before .before .store .ensures
+    ∙ ap (λ text. filled (a .at) (text ++ (48 + a .thousandths % 10) ∷ []) (a .out .now))
+    (pairs-stored (a .minute) 58 (a .second) 46 (a .thousandths / 10) (s .pre .0 .0) (s .pre .0 .1 .0) (omega arith) (omega arith) (omega arith) (c .before .before .before .before .three-pairs .ensures))
+
+pub put-spec : {M : Type 1} → statement M
+put-spec =
+    tie.close
+    (tie.spec three-pairs-requires add-store cast-store store-requires same-length returns)
