@@ -37,9 +37,11 @@ test: test-dates test-edits test-declarations test-c test-examples test-install 
 test-dates:
 	python3 tools/dates.py | cmp - crates/dates/stdout
 
-# Every must-fail edit still fits the file that it changes; whether it is refused is for `rt must-fail` to say.
+# Every must-fail edit still fits the files that it changes, and the tool that says so sees a fault. Whether the edits are refused is
+# for `rt must-fail` to say, and whether each function that they change is, for `tools/check_edits --refused`.
 test-edits:
 	tools/check_edits
+	tests/test_check_edits.py
 
 # The exports, the header and the Rust package declare the same calls; and the tool that says so sees a fault.
 test-declarations:
