@@ -12,7 +12,7 @@ use borrow.Author.Tests.{ltb-true, lt-ltb, eqb-true, eq-eqb}
 use Rattle.refusal.specs.Outcome.{value, refused}
 use Rattle.numbers.specs.Floor.{floorRemainder}
 use Rattle.numbers.specs.Range.{outside, since}
-use Rattle.numbers.proofs.Integers.{no-both, outside-no, add-since, since-add, since-le, lt-add, add-injective}
+use Rattle.numbers.proofs.Integers.{no-both, outside-no, add-since, since-add, since-le, lt-add, add-injective, clash}
 use Rattle.numbers.proofs.Between.{inside-pos, inside-from}
 use Rattle.calendar.specs.declared.Date.{Date}
 use Rattle.calendar.specs.Range.{firstYear, lastYear, firstCount, lastCount}
@@ -74,7 +74,7 @@ unfolding civilAnswer
 civil-value z d = go (outside firstCount lastCount z) refl
   where
     go : (t : Bool) → outside firstCount lastCount z ≡ t → cond t (refused 4) (value (dateOfCount z)) ≡ value d → (t ≡ false) × (dateOfCount z ≡ d)
-    go true e h = absurd (let z : _≡_ {A = ℕ} 0 1 = cc in omega arith)
+    go true e h = clash (cc)
     go false e h = (refl, cc)
 
 pub days-of-date-of-count :
@@ -244,4 +244,4 @@ civil-refuses-exactly-outside z = go (outside firstCount lastCount z)
   where
     go : (t : Bool) → (cond t (refused 4) (value (dateOfCount z)) ≡ refused 4) ↔ (t ≡ true)
     go true = (λ h. refl, λ h. refl)
-    go false = (λ h. absurd (let z : _≡_ {A = ℕ} 0 1 = cc in omega arith), λ h. no-both false h refl)
+    go false = (λ h. clash (cc), λ h. no-both false h refl)

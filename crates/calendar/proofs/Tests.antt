@@ -10,6 +10,7 @@ use mir.Facts.{toZ-ofZ}
 use Rattle.refusal.specs.Outcome.{Outcome, value, refused}
 use Rattle.numbers.specs.Range.{outside}
 use Rattle.numbers.proofs.Machine.{read}
+use Rattle.numbers.proofs.Integers.{clash}
 use Rattle.calendar.specs.declared.Date.{Date}
 use Rattle.calendar.specs.Range.{firstYear, lastYear}
 use Rattle.calendar.specs.Gregorian.{monthLength, date, ValidDate}
@@ -17,7 +18,7 @@ use Rattle.calendar.specs.Answers.{lastDayAnswer, ofDate, daysAnswer}
 
 -- a test in front of an outcome: where there is a value the test passed, and a refusal asks nothing of the value behind the tests
 pub passes : {A : Type 0} (t : Bool) (k : ℕ) (o : Outcome A) {z : A} → value z ≡ cond t (refused k) o → (t ≡ false) × (value z ≡ o)
-passes true k o e = absurd (let z : _≡_ {A = ℕ} 0 1 = cc in omega arith)
+passes true k o e = clash (cc)
 passes false k o e = (refl, e)
 
 pub refuses :
@@ -27,7 +28,7 @@ refuses true k o p f e = cc
 refuses false k o p f e = f e
 
 pub not-refused : {A B : Type 0} (x : A) (p : Outcome B) {n : ℕ} → refused n ≡ value x → refused n ≡ p
-not-refused x p e = absurd (let z : _≡_ {A = ℕ} 0 1 = cc in omega arith)
+not-refused x p e = clash (cc)
 
 pub same-value : {A : Type 0} {x y : A} → value x ≡ value y → x ≡ y
 same-value e = cc

@@ -9,15 +9,12 @@ use native.Mathlib.Omega.{arith}
 use borrow.Author.Tests.{ltb-true, ltb-false, lt-ltb, le-ltb}
 use lib.IntN.{ℤ, pos, natAbs}
 use Rattle.refusal.specs.Outcome.{Outcome, value, refused, refusedAt}
-use Rattle.numbers.proofs.Integers.{no-both}
+use Rattle.numbers.proofs.Integers.{no-both, clash}
 use Rattle.constants.specs.Difference.{exactQuotient, deviceQuotient, apart, differs}
 use Rattle.constants.specs.Least.{Found, at, none, leastBelow, NoneBelow, FirstAt}
 use Rattle.constants.specs.Limits.{outsideLimits, endOutside, boundOutside}
 use Rattle.constants.specs.Answers.{difference, Accepted, accepted, differenceAnswer, claimed, boundAnswer}
 use Rattle.constants.proofs.Least.{finds-at, finds-none, least-stays}
-
-clash : {A : Type 0} → _≡_ {A = ℕ} 0 1 → A
-clash z = absurd (omega arith)
 
 -- the answers by what is found below the end or the bound, and whether there is a difference at the bound
 found-exactly : (f g : Found) → (value f ≡ value g) ↔ (f ≡ g)

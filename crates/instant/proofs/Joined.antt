@@ -10,6 +10,7 @@ use mir.Facts.{toZ-ofZ}
 use Rattle.refusal.specs.Outcome.{value, refused}
 use Rattle.numbers.specs.Range.{outside}
 use Rattle.numbers.proofs.Machine.{read}
+use Rattle.numbers.proofs.Integers.{clash}
 use Rattle.calendar.specs.declared.Date.{Date}
 use Rattle.calendar.specs.Range.{firstYear, lastYear, firstCount, lastCount}
 use Rattle.calendar.specs.Gregorian.{monthLength, date}
@@ -31,7 +32,7 @@ module _ (hour minute second fraction : ℤ) where
   time-accepted z = go (badTime hour minute second fraction)
     where
       go : (t : Bool) {x : ℤ} → value z ≡ cond t (refused 5) (value x) → (t ≡ false) × (z ≡ x)
-      go true e = absurd (let z : _≡_ {A = ℕ} 0 1 = cc in omega arith)
+      go true e = clash (cc)
       go false e = (refl, cc)
 
   time-refused : (x : ℤ) (k : ℕ) → refused k ≡ timeAnswer hour minute second fraction → refused k ≡ cond (badTime hour minute second fraction) (refused 5) (value x)
@@ -40,7 +41,7 @@ module _ (hour minute second fraction : ℤ) where
     where
       go : (t : Bool) (y : ℤ) → refused k ≡ cond t (refused 5) (value y) → refused k ≡ cond t (refused 5) (value x)
       go true y e = e
-      go false y e = absurd (let z : _≡_ {A = ℕ} 0 1 = cc in omega arith)
+      go false y e = clash (cc)
 
   pub time-read :
       SFits w64 hour → SFits w64 minute → SFits w64 second → SFits w64 fraction →
@@ -115,10 +116,10 @@ unfolding ofDate
 never year month day z k = go (outside firstYear lastYear year) (outside (pos 1) (pos 12) month) (outside (pos 1) (monthLength year month) day)
   where
     go : {B : Type 0} (a b c : Bool) → value z ≡ cond a (refused 1) (cond b (refused 2) (cond c (refused 3) (refused k))) → B
-    go true b c e = absurd (let z : _≡_ {A = ℕ} 0 1 = cc in omega arith)
-    go false true c e = absurd (let z : _≡_ {A = ℕ} 0 1 = cc in omega arith)
-    go false false true e = absurd (let z : _≡_ {A = ℕ} 0 1 = cc in omega arith)
-    go false false false e = absurd (let z : _≡_ {A = ℕ} 0 1 = cc in omega arith)
+    go true b c e = clash (cc)
+    go false true c e = clash (cc)
+    go false false true e = clash (cc)
+    go false false false e = clash (cc)
 
 module _ (year month day hour minute second fraction instant : ℤ) where
   pub join-accepted :

@@ -10,6 +10,7 @@ use Rattle.refusal.specs.Outcome.{Outcome, value, refused}
 use Rattle.numbers.specs.Range.{outside}
 use Rattle.numbers.proofs.Floor.{quotient-and-remainder}
 use Rattle.numbers.proofs.Quotients.{quotient-monotone, quotient-is, remainder-is}
+use Rattle.numbers.proofs.Integers.{clash}
 use Rattle.calendar.specs.Range.{firstCount, lastCount}
 use Rattle.calendar.specs.Gregorian.{date}
 use Rattle.calendar.specs.Count.{dateOfCount}
@@ -39,7 +40,7 @@ unfolding splitAnswer
 split-accepted instant f = go (badInstant instant)
   where
     go : (t : Bool) → cond t (refused 4) (value (fieldsOf instant)) ≡ value f → (t ≡ false) × (fieldsOf instant ≡ f)
-    go true e = absurd (let z : _≡_ {A = ℕ} 0 1 = cc in omega arith)
+    go true e = clash (cc)
     go false e = (refl, cc)
 
 joinFields : Fields → Outcome ℤ

@@ -10,6 +10,7 @@ use borrow.Author.Tests.{leb-true, le-leb}
 use lib.Dec.{leb, lit<}
 use lib.ListN.{length, drop, length-append, drop-of-length-le}
 use lib.Seq.{append-snoc, drop-append-le}
+use Rattle.numbers.proofs.Integers.{clash}
 use Rattle.labels.specs.Digits.{digits, numberFrom, number, isDigit}
 
 -- ---- powers of ten
@@ -28,7 +29,7 @@ and-left false b h = h
 
 pub and-right : (a b : Bool) → a && b ≡ true → b ≡ true
 and-right true b h = h
-and-right false b h = absurd (let z : _≡_ {A = ℕ} 0 1 = cc in omega arith)
+and-right false b h = clash (cc)
 
 pub digit-range : (byte : ℕ) → isDigit byte ≡ true → (48 ≤ byte) × (byte ≤ 57)
 digit-range byte h = (leb-true 48 byte (and-left (leb 48 byte) _ h), leb-true byte 57 (and-right (leb 48 byte) _ h))

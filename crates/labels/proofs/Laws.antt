@@ -12,6 +12,7 @@ use lib.Seq.{take-at, drop-at}
 use Rattle.refusal.specs.Outcome.{Outcome, mapValue, value, refused, refusedAt}
 use Rattle.numbers.specs.Range.{outside}
 use Rattle.numbers.proofs.Between.{within, inside-pos}
+use Rattle.numbers.proofs.Integers.{clash}
 use Rattle.calendar.specs.Range.{firstYear, lastYear}
 use Rattle.calendar.specs.Gregorian.{monthLength, date}
 use Rattle.calendar.specs.Answers.{ofDate}
@@ -85,7 +86,7 @@ unfolding positionLabel
 accepted z label = go (outside (pos 0) lastPosition z)
   where
     go : (t : Bool) → cond t (refused 6) (value (positionText (natAbs z))) ≡ value label → (positionText (natAbs z) ≡ label) × (t ≡ false)
-    go true e = absurd (let z : _≡_ {A = ℕ} 0 1 = cc in omega arith)
+    go true e = clash (cc)
     go false e = (cc, refl)
 
 position-read : (z : ℤ) (label : List ℕ) → positionLabel z ≡ value label → z ≡ pos (positionOf label)
@@ -149,8 +150,8 @@ write-read instant label e = go (splitAnswer instant) refl e
   where
     go : (o : Outcome Fields) → splitAnswer instant ≡ o → mapValue labelText o ≡ value label → readAnswer label ≡ value instant
     go (value f) s e = let l : labelText f ≡ label = cc in sym (ap readAnswer l) ∙ fields-read instant f s
-    go (refused n) s e = absurd (let z : _≡_ {A = ℕ} 0 1 = cc in omega arith)
-    go (refusedAt n place) s e = absurd (let z : _≡_ {A = ℕ} 0 1 = cc in omega arith)
+    go (refused n) s e = clash (cc)
+    go (refusedAt n place) s e = clash (cc)
 
 -- an accepted label has the shape, and its fields make the instant
 read-accepted :
@@ -161,7 +162,7 @@ read-accepted label instant = go (fits (dateShape ++ timeShape decimals) label)
   where
     go : (t : Bool) → cond t (readFields label (drop 10 label)) (refused 8) ≡ value instant → (t ≡ true) × (readFields label (drop 10 label) ≡ value instant)
     go true e = (refl, e)
-    go false e = absurd (let z : _≡_ {A = ℕ} 0 1 = cc in omega arith)
+    go false e = clash (cc)
 
 -- a text of the shape is the text of its numbers
 label-back :
@@ -200,7 +201,7 @@ later-refusal : {A : Type 0} (b c t : Bool) (v : A) → cond b (refused 2) (cond
 later-refusal true c t v e = let z : _≡_ {A = ℕ} 2 1 = cc in omega arith
 later-refusal false true t v e = let z : _≡_ {A = ℕ} 3 1 = cc in omega arith
 later-refusal false false true v e = let z : _≡_ {A = ℕ} 5 1 = cc in omega arith
-later-refusal false false false v e = let z : _≡_ {A = ℕ} 0 1 = cc in omega arith
+later-refusal false false false v e = clash (cc)
 
 join-year :
     (year month day hour minute second millisecond : ℤ) → outside firstYear lastYear year ≡ false →

@@ -8,6 +8,7 @@ use borrow.Author.Tests.{eqb-true}
 use lib.Dec.{eqb}
 use lib.ListN.{length, getD, take, drop, replicate, length-replicate}
 use lib.Seq.{drop-cons, take-suc, take-length}
+use Rattle.numbers.proofs.Integers.{clash}
 use Rattle.labels.specs.Digits.{number, numberFrom, numberAt, isDigit, fitsOne, fits}
 use Rattle.labels.specs.Words.{word, byteOf, partOf, above, readValues, pairOf, numberOf}
 use Rattle.labels.specs.declared.digits.Values.the-variants.{Read, Malformed}
@@ -134,13 +135,13 @@ module _ (shape text : List ℕ) where
                 ∙ sym (number-two text k (omega arith));
             values-are = i;
           }
-      go false f e = absurd (let z : _≡_ {A = ℕ} 0 1 = cc in omega arith)
+      go false f e = clash (cc)
 
   pub values-malformed : Malformed ≡ readValues shape text → fits shape text ≡ false
   values-malformed e = go (fits shape text) e
     where
       go : (t : Bool) → Malformed ≡ cond t (Read (word (above shape text))) Malformed → t ≡ false
-      go true e = absurd (let z : _≡_ {A = ℕ} 0 1 = cc in omega arith)
+      go true e = clash (cc)
       go false e = refl
 
 -- the number of the digits behind a mark, whose value is 0

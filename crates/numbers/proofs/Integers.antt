@@ -10,9 +10,12 @@ use lib.Signed.{ltZ}
 use borrow.Author.Tests.{ltb-true, ltb-false, lt-ltb, le-ltb, eq-eqb, eqb-true}
 use Rattle.numbers.specs.Range.{outside, since, eqZ}
 
--- two constructors of Bool differ
+-- of an equation between two constructors `cc` proves that 0 is 1, and from that follows anything
+pub clash : {A : Type 0} → _≡_ {A = ℕ} 0 1 → A
+clash e = absurd (omega arith)
+
 pub no-both : {G : Type 0} (t : Bool) → t ≡ true → t ≡ false → G
-no-both t p q = absurd (let z : _≡_ {A = ℕ} 0 1 = cc in omega arith)
+no-both t p q = clash (cc)
 
 -- a difference of natural numbers, by its sign
 pub on-sub : (P : ℤ → Type 0) (a b : ℕ) → (a < b → P (negsuc (b - suc a))) → (b ≤ a → P (pos (a - b))) → P (subℕ a b)

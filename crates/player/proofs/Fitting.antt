@@ -14,16 +14,13 @@ use mir.Val.{SFits}
 use mir.Facts.{toZ-ofZ}
 use Rattle.refusal.specs.Outcome.{Outcome, value, refused, refusedAt, mapValue}
 use Rattle.numbers.proofs.Machine.{read}
+use Rattle.numbers.proofs.Integers.{clash}
 use Rattle.instant.specs.Answers.{firstBad, indexDaysAnswer}
 use Rattle.labels.specs.Written.{bytesWritten}
 use Rattle.constants.specs.Least.{Found, at, none, leastBelow}
 use Rattle.constants.specs.Limits.{outsideLimits, endOutside, boundOutside}
 use Rattle.constants.specs.Answers.{Accepted, difference, differenceAnswer, claimed, boundAnswer}
 use Rattle.constants.proofs.Least.{finds-at}
-
--- outcomes of different kinds are never equal: of such an equation `cc` proves 0 ≡ 1
-never : {A : Type 0} → _≡_ {A = ℕ} 0 1 → A
-never e = absurd (omega arith)
 
 -- the bytes that are written are not more than there are
 bytes-within : (label : Outcome (List ℕ)) (buffer : List ℕ) (n : ℕ) → bytesWritten label buffer ≡ value n → n ≤ length buffer
@@ -32,10 +29,10 @@ bytes-within (value label) buffer n e = go (ltb (length buffer) (length label)) 
     go :
         (short : Bool) → ltb (length buffer) (length label) ≡ short →
         mapValue length (cond short (refused 7) (value label)) ≡ value n → n ≤ length buffer
-    go true h e = never (cc)
+    go true h e = clash (cc)
     go false h e = let same : length label ≡ n = cc in omega (arith, ltb-false (length buffer) (length label) h)
-bytes-within (refused number) buffer n e = never (cc)
-bytes-within (refusedAt number place) buffer n e = never (cc)
+bytes-within (refused number) buffer n e = clash (cc)
+bytes-within (refusedAt number place) buffer n e = clash (cc)
 
 pub bytes-fit :
     (label : Outcome (List ℕ)) (buffer : List ℕ) → length buffer < 2 ^ 63 → {outcome : Outcome ℕ} → outcome ≡ bytesWritten label buffer →
@@ -86,7 +83,7 @@ module _ (a b d m c k t : ℤ) where
   found-below end n = go (outsideLimits a b d m c k t || endOutside end)
     where
       go : (outside : Bool) → cond outside (refused 9) (value (leastBelow D (natAbs end))) ≡ value (at n) → n < natAbs end
-      go true e = never (cc)
+      go true e = clash (cc)
       go false e = let found : leastBelow D (natAbs end) ≡ at n = cc in finds-at D (natAbs end) n .0 found .below
 
   least-below : (bound : ℤ) (number n : ℕ) → boundAnswer a b d m c k t bound ≡ refusedAt number n → n < natAbs bound
@@ -96,10 +93,10 @@ module _ (a b d m c k t : ℤ) where
       go :
           (outside : Bool) (found : Found) → leastBelow D (natAbs bound) ≡ found → (here : Bool) →
           cond outside (refused 9) (claimed found here) ≡ refusedAt number n → n < natAbs bound
-      go true found h here e = never (cc)
+      go true found h here e = clash (cc)
       go false (at l) h here e = let same : l ≡ n = cc in omega (arith, finds-at D (natAbs bound) l .0 h .below)
-      go false none h true e = never (cc)
-      go false none h false e = never (cc)
+      go false none h true e = clash (cc)
+      go false none h false e = clash (cc)
 
   pub found-fits :
       {end : ℤ} → SFits w64 end → {outcome : Outcome Found} → outcome ≡ differenceAnswer a b d m c k t (read end) →

@@ -8,6 +8,7 @@ use Rattle.calendar.specs.Count.{dateOfCount}
 use Rattle.numbers.proofs.Machine.{answered}
 use Rattle.numbers.proofs.Machine.{read, cast-pos}
 use Rattle.refusal.specs.Outcome.{value}
+use Rattle.numbers.proofs.Integers.{clash}
 use mir.Facts.{toZ-ofZ}
 use mir.Val.{SFits}
 use mir.Syntax.{w64}
@@ -76,7 +77,7 @@ returns-2 c = let t = c .before in
     rw (inside (k .before)) (ap value (c .fields-at .ensures ∙ ap₂ fieldsAt d (ap natAbs (time-is t))))
 
 returns-3 : tie.Need-returns-3
-returns-3 c = absurd (let z : _≡_ {A = ℕ} 0 1 = cc (ap dateOutcome (sym (c .before .r .given .1)) ∙ date-is (c .before .before .before)) in omega arith)
+returns-3 c = clash (cc (ap dateOutcome (sym (c .before .r .given .1)) ∙ date-is (c .before .before .before)))
 
 pub split-instant-spec : {M : Type 1} → statement M
 split-instant-spec =
