@@ -12,7 +12,8 @@ use borrow.Author.Tests.{ltb-true, lt-ltb, eqb-true, eq-eqb}
 use Rattle.refusal.specs.Outcome.{value, refused}
 use Rattle.numbers.specs.Floor.{floorRemainder}
 use Rattle.numbers.specs.Range.{outside, since}
-use Rattle.numbers.proofs.Integers.{no-both, outside-no, add-since, since-add, since-le, lt-add, add-injective, clash}
+use Rattle.refusal.proofs.Outcomes.{clash, passes, same-value}
+use Rattle.numbers.proofs.Integers.{no-both, outside-no, add-since, since-add, since-le, lt-add, add-injective}
 use Rattle.numbers.proofs.Between.{inside-pos, inside-from}
 use Rattle.calendar.specs.declared.Date.{Date}
 use Rattle.calendar.specs.Range.{firstYear, lastYear, firstCount, lastCount}
@@ -71,11 +72,7 @@ count-of-valid-date-is-in-range = count-inside
 -- the same of the two calls: each undoes the other
 civil-value : (z : ℤ) (d : Date) → civilAnswer z ≡ value d → (outside firstCount lastCount z ≡ false) × (dateOfCount z ≡ d)
 unfolding civilAnswer
-civil-value z d = go (outside firstCount lastCount z) refl
-  where
-    go : (t : Bool) → outside firstCount lastCount z ≡ t → cond t (refused 4) (value (dateOfCount z)) ≡ value d → (t ≡ false) × (dateOfCount z ≡ d)
-    go true e h = clash (cc)
-    go false e h = (refl, cc)
+civil-value z d e = let p = passes (outside firstCount lastCount z) 4 _ (sym e) in (p .0, sym (same-value (p .1)))
 
 pub days-of-date-of-count :
     (z : ℤ) → outside firstCount lastCount z ≡ false → daysAnswer (dateOfCount z .year) (dateOfCount z .month) (dateOfCount z .day) ≡ value z

@@ -12,6 +12,7 @@ use Rattle.refusal.specs.Outcome.{value, refused}
 use Rattle.numbers.specs.Range.{outside}
 use Rattle.numbers.proofs.Between.{Within, within}
 use Rattle.numbers.proofs.Machine.{read, pos-fits, key-is}
+use Rattle.refusal.proofs.Outcomes.{passes, refuses, not-refused, same-value}
 use Rattle.calendar.specs.Range.{firstYear, lastYear}
 use Rattle.calendar.specs.Gregorian.{monthLength}
 use Rattle.calendar.specs.Answers.{lastDayAnswer}
@@ -19,7 +20,6 @@ use Rattle.calendar.specs.Checked.{commonLength}
 use Rattle.calendar.specs.Closed.{baseYear, leapDay, monthDays}
 use Rattle.calendar.proofs.Leap.{leap-le}
 use Rattle.calendar.proofs.Months.{each-month, length-le, length-public}
-use Rattle.calendar.proofs.Tests.{passes, refuses, not-refused, same-value}
 
 module _ (month : ℤ) (f : SFits w64 month) where
   pub at-key : (k : ℕ) → k < 2 ^ 63 → ofZ w64 month ≡ k → commonLength (pos k) ≡ commonLength month

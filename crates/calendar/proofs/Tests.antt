@@ -1,37 +1,19 @@
 -- What the tests of a year, a month and a day decide.
 use Prim.Native.Nat.{ℕ}
-use mathlib.Core.Path.{_≡_, refl, ap, _∙_}
-use mathlib.Core.Bool.{Bool, true, false, cond}
-use native.Mathlib.Omega.{arith}
+use mathlib.Core.Path.{_≡_, ap, _∙_}
+use mathlib.Core.Bool.{false, cond}
 use lib.IntN.{ℤ, pos}
 use mir.Syntax.{w64}
 use mir.Val.{SFits}
 use mir.Facts.{toZ-ofZ}
 use Rattle.refusal.specs.Outcome.{Outcome, value, refused}
+use Rattle.refusal.proofs.Outcomes.{passes, refuses, not-refused, same-value}
 use Rattle.numbers.specs.Range.{outside}
 use Rattle.numbers.proofs.Machine.{read}
-use Rattle.numbers.proofs.Integers.{clash}
 use Rattle.calendar.specs.declared.Date.{Date}
 use Rattle.calendar.specs.Range.{firstYear, lastYear}
 use Rattle.calendar.specs.Gregorian.{monthLength, date, ValidDate}
 use Rattle.calendar.specs.Answers.{lastDayAnswer, ofDate, daysAnswer}
-
--- a test in front of an outcome: where there is a value the test passed, and a refusal asks nothing of the value behind the tests
-pub passes : {A : Type 0} (t : Bool) (k : ℕ) (o : Outcome A) {z : A} → value z ≡ cond t (refused k) o → (t ≡ false) × (value z ≡ o)
-passes true k o e = clash (cc)
-passes false k o e = (refl, e)
-
-pub refuses :
-    {A B : Type 0} (t : Bool) (k : ℕ) (o : Outcome A) (p : Outcome B) {n : ℕ} → (refused n ≡ o → refused n ≡ p) →
-    refused n ≡ cond t (refused k) o → refused n ≡ cond t (refused k) p
-refuses true k o p f e = cc
-refuses false k o p f e = f e
-
-pub not-refused : {A B : Type 0} (x : A) (p : Outcome B) {n : ℕ} → refused n ≡ value x → refused n ≡ p
-not-refused x p e = clash (cc)
-
-pub same-value : {A : Type 0} {x y : A} → value x ≡ value y → x ≡ y
-same-value e = cc
 
 -- year and month
 pub month-accepted :

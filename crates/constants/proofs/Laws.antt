@@ -9,7 +9,8 @@ use native.Mathlib.Omega.{arith}
 use borrow.Author.Tests.{ltb-true, ltb-false, lt-ltb, le-ltb}
 use lib.IntN.{ℤ, pos, natAbs}
 use Rattle.refusal.specs.Outcome.{Outcome, value, refused, refusedAt}
-use Rattle.numbers.proofs.Integers.{no-both, clash}
+use Rattle.refusal.proofs.Outcomes.{clash}
+use Rattle.numbers.proofs.Integers.{no-both}
 use Rattle.constants.specs.Difference.{exactQuotient, deviceQuotient, apart, differs}
 use Rattle.constants.specs.Least.{Found, at, none, leastBelow, NoneBelow, FirstAt}
 use Rattle.constants.specs.Limits.{outsideLimits, endOutside, boundOutside}

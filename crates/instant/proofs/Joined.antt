@@ -2,7 +2,6 @@
 use Prim.Native.Nat.{ℕ}
 use mathlib.Core.Path.{_≡_, refl, sym, ap, ap₂, _∙_, subst}
 use mathlib.Core.Bool.{Bool, true, false, cond}
-use native.Mathlib.Omega.{arith}
 use lib.IntN.{ℤ, pos, _+ℤ_, _*ℤ_}
 use mir.Syntax.{w64}
 use mir.Val.{SFits}
@@ -10,7 +9,7 @@ use mir.Facts.{toZ-ofZ}
 use Rattle.refusal.specs.Outcome.{value, refused}
 use Rattle.numbers.specs.Range.{outside}
 use Rattle.numbers.proofs.Machine.{read}
-use Rattle.numbers.proofs.Integers.{clash}
+use Rattle.refusal.proofs.Outcomes.{clash, passes, refuses, not-refused, same-value}
 use Rattle.calendar.specs.declared.Date.{Date}
 use Rattle.calendar.specs.Range.{firstYear, lastYear, firstCount, lastCount}
 use Rattle.calendar.specs.Gregorian.{monthLength, date}
@@ -29,19 +28,11 @@ module _ (hour minute second fraction : ℤ) where
   -- an accepted time
   pub time-accepted : (z : ℤ) → value z ≡ timeAnswer hour minute second fraction → (badTime hour minute second fraction ≡ false) × (z ≡ timeOfFields hour minute second fraction)
   unfolding timeAnswer
-  time-accepted z = go (badTime hour minute second fraction)
-    where
-      go : (t : Bool) {x : ℤ} → value z ≡ cond t (refused 5) (value x) → (t ≡ false) × (z ≡ x)
-      go true e = clash (cc)
-      go false e = (refl, cc)
+  time-accepted z e = let p = passes (badTime hour minute second fraction) 5 _ e in (p .0, same-value (p .1))
 
   time-refused : (x : ℤ) (k : ℕ) → refused k ≡ timeAnswer hour minute second fraction → refused k ≡ cond (badTime hour minute second fraction) (refused 5) (value x)
   unfolding timeAnswer
-  time-refused x k = go (badTime hour minute second fraction) (timeOfFields hour minute second fraction)
-    where
-      go : (t : Bool) (y : ℤ) → refused k ≡ cond t (refused 5) (value y) → refused k ≡ cond t (refused 5) (value x)
-      go true y e = e
-      go false y e = clash (cc)
+  time-refused x k = refuses (badTime hour minute second fraction) 5 _ _ (not-refused _ _)
 
   pub time-read :
       SFits w64 hour → SFits w64 minute → SFits w64 second → SFits w64 fraction →
@@ -113,13 +104,11 @@ pub record Accepted (year month day hour minute second fraction instant : ℤ) :
 
 never : {B : Type 0} (year month day z : ℤ) (k : ℕ) → value z ≡ ofDate year month day (λ d. refused k) → B
 unfolding ofDate
-never year month day z k = go (outside firstYear lastYear year) (outside (pos 1) (pos 12) month) (outside (pos 1) (monthLength year month) day)
-  where
-    go : {B : Type 0} (a b c : Bool) → value z ≡ cond a (refused 1) (cond b (refused 2) (cond c (refused 3) (refused k))) → B
-    go true b c e = clash (cc)
-    go false true c e = clash (cc)
-    go false false true e = clash (cc)
-    go false false false e = clash (cc)
+never year month day z k e =
+    let a = passes (outside firstYear lastYear year) 1 _ e in
+    let b = passes (outside (pos 1) (pos 12) month) 2 _ (a .1) in
+    let c = passes (outside (pos 1) (monthLength year month) day) 3 _ (b .1) in
+    clash (cc (c .1))
 
 module _ (year month day hour minute second fraction instant : ℤ) where
   pub join-accepted :

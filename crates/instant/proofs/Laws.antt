@@ -1,8 +1,7 @@
 -- The laws of instants: fields and instants are one-to-one, days keep the order, and an instant's date is the calendar's.
-use Prim.Native.Nat.{ℕ, _/_, _%_}
-use mathlib.Core.Path.{_≡_, refl, sym, ap, ap₂, _∙_}
-use mathlib.Core.Bool.{Bool, true, false, cond}
-use native.Mathlib.Omega.{arith}
+use Prim.Native.Nat.{_/_, _%_}
+use mathlib.Core.Path.{_≡_, sym, ap, ap₂, _∙_}
+use mathlib.Core.Bool.{false, cond}
 use lib.Dec.{lit<}
 use lib.IntN.{ℤ, pos, _+ℤ_, _*ℤ_}
 use lib.Signed.{ltZ}
@@ -10,7 +9,7 @@ use Rattle.refusal.specs.Outcome.{Outcome, value, refused}
 use Rattle.numbers.specs.Range.{outside}
 use Rattle.numbers.proofs.Floor.{quotient-and-remainder}
 use Rattle.numbers.proofs.Quotients.{quotient-monotone, quotient-is, remainder-is}
-use Rattle.numbers.proofs.Integers.{clash}
+use Rattle.refusal.proofs.Outcomes.{passes, same-value}
 use Rattle.calendar.specs.Range.{firstCount, lastCount}
 use Rattle.calendar.specs.Gregorian.{date}
 use Rattle.calendar.specs.Count.{dateOfCount}
@@ -37,11 +36,7 @@ day-and-time instant = quotient-and-remainder instant perDay (lit< tt)
 -- an accepted instant
 split-accepted : (instant : ℤ) (f : Fields) → splitAnswer instant ≡ value f → (badInstant instant ≡ false) × (fieldsOf instant ≡ f)
 unfolding splitAnswer
-split-accepted instant f = go (badInstant instant)
-  where
-    go : (t : Bool) → cond t (refused 4) (value (fieldsOf instant)) ≡ value f → (t ≡ false) × (fieldsOf instant ≡ f)
-    go true e = clash (cc)
-    go false e = (refl, cc)
+split-accepted instant f e = let p = passes (badInstant instant) 4 _ (sym e) in (p .0, sym (same-value (p .1)))
 
 joinFields : Fields → Outcome ℤ
 joinFields f = joinAnswer (f .year) (f .month) (f .day) (f .hour) (f .minute) (f .second) (f .millisecond)

@@ -10,7 +10,7 @@ use borrow.Author.Tests.{leb-true, le-leb}
 use lib.Dec.{leb, lit<}
 use lib.ListN.{length, drop, length-append, drop-of-length-le}
 use lib.Seq.{append-snoc, drop-append-le}
-use Rattle.numbers.proofs.Integers.{clash}
+use Rattle.refusal.proofs.Outcomes.{clash}
 use Rattle.labels.specs.Digits.{digits, numberFrom, number, isDigit}
 
 -- ---- powers of ten

@@ -12,7 +12,7 @@ use lib.Seq.{take-at, drop-at}
 use Rattle.refusal.specs.Outcome.{Outcome, mapValue, value, refused, refusedAt}
 use Rattle.numbers.specs.Range.{outside}
 use Rattle.numbers.proofs.Between.{within, inside-pos}
-use Rattle.numbers.proofs.Integers.{clash}
+use Rattle.refusal.proofs.Outcomes.{clash, passes, same-value}
 use Rattle.calendar.specs.Range.{firstYear, lastYear}
 use Rattle.calendar.specs.Gregorian.{monthLength, date}
 use Rattle.calendar.specs.Answers.{ofDate}
@@ -83,11 +83,7 @@ accepted :
     (z : ℤ) (label : List ℕ) → positionLabel z ≡ value label →
     (positionText (natAbs z) ≡ label) × (outside (pos 0) lastPosition z ≡ false)
 unfolding positionLabel
-accepted z label = go (outside (pos 0) lastPosition z)
-  where
-    go : (t : Bool) → cond t (refused 6) (value (positionText (natAbs z))) ≡ value label → (positionText (natAbs z) ≡ label) × (t ≡ false)
-    go true e = clash (cc)
-    go false e = (cc, refl)
+accepted z label e = let p = passes (outside (pos 0) lastPosition z) 6 _ (sym e) in (sym (same-value (p .1)), p .0)
 
 position-read : (z : ℤ) (label : List ℕ) → positionLabel z ≡ value label → z ≡ pos (positionOf label)
 position-read z label e =

@@ -6,7 +6,7 @@ use native.Mathlib.Omega.{arith}
 use borrow.Author.Tests.{eqb-true, eq-eqb, le-leb}
 use lib.Bits.{bitAnd, bitXor, and-block, xor-block, and-mask, and-zero-r, xor-zero-r, xor-self, xor-lt, xor-add-and, and-le-l, and-le-r}
 use lib.Dec.{eqb, lit<}
-use Rattle.labels.specs.Digits.{isDigit, fitsOne, fits}
+use Rattle.labels.specs.Digits.{isDigit, fitsOne}
 use Rattle.labels.specs.Words.{maskOne}
 use Rattle.labels.proofs.Decimal.{digit-range}
 

@@ -6,9 +6,9 @@ use mathlib.Core.List.{List, [], _∷_, _++_}
 use native.Mathlib.Omega.{arith}
 use borrow.Author.Tests.{eqb-true}
 use lib.Dec.{eqb}
-use lib.ListN.{length, getD, take, drop, replicate, length-replicate}
+use lib.ListN.{length, getD, take, replicate, length-replicate}
 use lib.Seq.{drop-cons, take-suc, take-length}
-use Rattle.numbers.proofs.Integers.{clash}
+use Rattle.refusal.proofs.Outcomes.{clash}
 use Rattle.labels.specs.Digits.{number, numberFrom, numberAt, isDigit, fitsOne, fits}
 use Rattle.labels.specs.Words.{word, byteOf, partOf, above, readValues, pairOf, numberOf}
 use Rattle.labels.specs.declared.digits.Values.the-variants.{Read, Malformed}

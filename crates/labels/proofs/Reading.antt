@@ -7,7 +7,7 @@ use native.Mathlib.Omega.{arith}
 use lib.ListN.{length, getD, take, drop, replicate, length-drop, length-replicate, drop-of-length-le}
 use lib.Seq.{take-all, drop-cons, length-take-le}
 use Rattle.refusal.specs.Outcome.{refused}
-use Rattle.labels.specs.Digits.{digits, number, numberAt, fitsOne, fits}
+use Rattle.labels.specs.Digits.{digits, numberAt, fitsOne, fits}
 use Rattle.labels.specs.Rfc3339.{labelLength, decimals, dateShape, timeShape, readFields, readAnswer}
 use Rattle.labels.specs.Words.{partOf, readValues, pairOf, numberOf}
 use Rattle.labels.specs.Parts.{joined, readTime}

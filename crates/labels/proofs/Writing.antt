@@ -1,9 +1,9 @@
 -- What a writer answers, and what its buffer holds then.
 use Prim.Native.Nat.{ℕ, _≤_, _<_}
 use mathlib.Core.Path.{_≡_, refl, ap, _∙_, subst}
-use mathlib.Core.List.{List, _++_}
+use mathlib.Core.List.{List}
 use borrow.Author.Tests.{lt-ltb, le-ltb}
-use lib.ListN.{length, drop}
+use lib.ListN.{length}
 use Rattle.refusal.specs.Outcome.{Outcome, value, refused}
 use Rattle.labels.specs.Written.{bytesWritten, writtenBuffer}
 use Rattle.labels.specs.Filled.{filled}

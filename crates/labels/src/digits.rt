@@ -5,7 +5,7 @@ ghost use Prim.Native.Nat.{_+_, _^_, _≤_, _<_};
 ghost use mathlib.Core.List.{_∷_, _++_};
 ghost use lib.ListN.{length};
 ghost use Rattle.labels.specs.Digits.{digits};
-ghost use Rattle.labels.specs.Words.{word, byteOf, partOf, maskOne, mask, readValues, pairOf, numberOf};
+ghost use Rattle.labels.specs.Words.{word, partOf, maskOne, mask, readValues, pairOf, numberOf};
 
 // The byte of the digit 0.
 pub const ZERO: u32 = 48;

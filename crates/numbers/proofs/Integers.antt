@@ -1,7 +1,7 @@
 -- Whole numbers as a first number and a natural number more, and their order.
 use Prim.Native.Nat.{ℕ, suc, _+_, _-_, _≤_, _<_}
 use mathlib.Core.Path.{_≡_, refl, sym, ap, ap₂, _∙_}
-use mathlib.Core.Bool.{Bool, true, false, cond, _||_}
+use mathlib.Core.Bool.{Bool, true, false, cond, _||_, true≢false}
 use native.Mathlib.Omega.{arith}
 use native.Mathlib.Decide.{decLt}
 use lib.Dec.{ltb}
@@ -10,12 +10,8 @@ use lib.Signed.{ltZ}
 use borrow.Author.Tests.{ltb-true, ltb-false, lt-ltb, le-ltb, eq-eqb, eqb-true}
 use Rattle.numbers.specs.Range.{outside, since, eqZ}
 
--- of an equation between two constructors `cc` proves that 0 is 1, and from that follows anything
-pub clash : {A : Type 0} → _≡_ {A = ℕ} 0 1 → A
-clash e = absurd (omega arith)
-
 pub no-both : {G : Type 0} (t : Bool) → t ≡ true → t ≡ false → G
-no-both t p q = clash (cc)
+no-both t p q = absurd (true≢false (sym p ∙ q))
 
 -- a difference of natural numbers, by its sign
 pub on-sub : (P : ℤ → Type 0) (a b : ℕ) → (a < b → P (negsuc (b - suc a))) → (b ≤ a → P (pos (a - b))) → P (subℕ a b)

@@ -14,7 +14,7 @@ use mir.Val.{SFits}
 use mir.Facts.{toZ-ofZ}
 use Rattle.refusal.specs.Outcome.{Outcome, value, refused, refusedAt, mapValue}
 use Rattle.numbers.proofs.Machine.{read}
-use Rattle.numbers.proofs.Integers.{clash}
+use Rattle.refusal.proofs.Outcomes.{clash}
 use Rattle.instant.specs.Answers.{firstBad, indexDaysAnswer}
 use Rattle.labels.specs.Written.{bytesWritten}
 use Rattle.constants.specs.Least.{Found, at, none, leastBelow}

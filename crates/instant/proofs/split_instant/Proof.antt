@@ -8,12 +8,12 @@ use Rattle.calendar.specs.Count.{dateOfCount}
 use Rattle.numbers.proofs.Machine.{answered}
 use Rattle.numbers.proofs.Machine.{read, cast-pos}
 use Rattle.refusal.specs.Outcome.{value}
-use Rattle.numbers.proofs.Integers.{clash}
+use Rattle.refusal.proofs.Outcomes.{clash}
 use mir.Facts.{toZ-ofZ}
 use mir.Val.{SFits}
 use mir.Syntax.{w64}
 use lib.IntN.{pos, natAbs}
-use Prim.Native.Nat.{ℕ, _<_}
+use Prim.Native.Nat.{_<_}
 use native.Mathlib.Omega.{arith}
 use mathlib.Core.Bool.{false}
 use mathlib.Core.Path.{_≡_, sym, ap, ap₂, _∙_, subst}

@@ -1,6 +1,5 @@
 use native.Mathlib.Omega.{arith}
 use Rattle.labels.proofs.Values.{compared, unsettled, gaps-small, no-digits, all-digits}
-use borrow.Author.Needs.{needs}
 use Rattle.labels.proofs.digits.read_values.Statement.{statement}
 use Rattle.labels.proofs.digits.read_values.Tie as tie
 

@@ -1,4 +1,3 @@
-use mathlib.Core.Path.{_∙_, sym}
 use native.Mathlib.Omega.{arith}
 use lib.IntN.{pos, natAbs}
 use Rattle.numbers.proofs.Between.{within, cast-within}
