@@ -1,12 +1,12 @@
 -- The time of day and its fields, in natural numbers.
 use Prim.Native.Nat.{ℕ, _+_, _-_, _*_, _/_, _%_, _<_}
-use mathlib.Core.Path.{_≡_, refl, sym, ap, ap₂, _∙_}
-use mathlib.Core.Bool.{Bool, true, false, _||_}
+use mathlib.Core.Path.{_≡_, sym, ap, ap₂, _∙_}
+use mathlib.Core.Bool.{false, _||_}
 use native.Mathlib.Omega.{arith}
 use lib.IntN.{ℤ, pos, natAbs}
 use Rattle.numbers.specs.Range.{outside}
 use Rattle.numbers.proofs.Between.{Within, within, inside-pos}
-use Rattle.numbers.proofs.Integers.{no-both}
+use Rattle.numbers.proofs.Integers.{or-no}
 use Rattle.calendar.specs.declared.Date.{Date}
 use Rattle.instant.specs.Units.{perSecond, perMinute, perHour, perDay}
 use Rattle.instant.specs.Instant.{fieldsWith, fieldsAt, timeOfFields}
@@ -18,10 +18,6 @@ pub record Time (hour minute second fraction : ℤ) : Type 0 where
   pub minute-within : Within 0 59 minute
   pub second-within : Within 0 59 second
   pub fraction-within : Within 0 (perSecond - 1) fraction
-
-or-no : (a b : Bool) → (a || b) ≡ false → (a ≡ false) × (b ≡ false)
-or-no true b h = no-both true refl h
-or-no false b h = (refl, h)
 
 module _ (hour minute second fraction : ℤ) where
   pub natural : badTime hour minute second fraction ≡ false → Time hour minute second fraction

@@ -13,6 +13,11 @@ use Rattle.numbers.specs.Range.{outside, since, eqZ}
 pub no-both : {G : Type 0} (t : Bool) → t ≡ true → t ≡ false → G
 no-both t p q = absurd (true≢false (sym p ∙ q))
 
+-- neither of two tests holds
+pub or-no : (a b : Bool) → (a || b) ≡ false → (a ≡ false) × (b ≡ false)
+or-no true b h = no-both true refl h
+or-no false b h = (refl, h)
+
 -- a difference of natural numbers, by its sign
 pub on-sub : (P : ℤ → Type 0) (a b : ℕ) → (a < b → P (negsuc (b - suc a))) → (b ≤ a → P (pos (a - b))) → P (subℕ a b)
 on-sub P a b f g = go (ltb a b) refl
@@ -146,11 +151,7 @@ module _ (first last : ℤ) (some : ltZ last first ≡ false) where
 
 -- `outside`, taken apart
 pub outside-no : (first last z : ℤ) → outside first last z ≡ false → (ltZ z first ≡ false) × (ltZ last z ≡ false)
-outside-no first last z = go (ltZ z first) (ltZ last z)
-  where
-    go : (a b : Bool) → (a || b) ≡ false → (a ≡ false) × (b ≡ false)
-    go true b h = no-both true refl h
-    go false b h = (refl, h)
+outside-no first last z = or-no (ltZ z first) (ltZ last z)
 
 pub not-outside : (first last z : ℤ) → ltZ z first ≡ false → ltZ last z ≡ false → outside first last z ≡ false
 not-outside first last z lo hi = ap₂ _||_ lo hi

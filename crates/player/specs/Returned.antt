@@ -3,9 +3,11 @@
 -- the call then returns 0. What such a place holds after a call is `afterCall` of the call's answer; a place or least n that a refusal
 -- hands back has a place of its own (`afterRefusal`).
 use Prim.Native.Nat.{ℕ}
-use mathlib.Core.Bool.{Bool, cond}
+use mathlib.Core.Path.{_≡_}
+use mathlib.Core.Bool.{Bool, true, false, cond}
 use mathlib.Core.List.{List, [], _∷_}
 use lib.IntN.{ℤ, pos, negℤ}
+use lib.Signed.{nonNeg}
 use Rattle.refusal.specs.Outcome.{Outcome, value, refused, refusedAt, mapValue}
 use Rattle.calendar.specs.declared.Date.{Date}
 use Rattle.instant.specs.declared.Fields.{Fields}
@@ -50,3 +52,13 @@ abbrev pub afterRefusal : {A : Type 0} → Outcome A → (before : ℤ) → ℤ
 afterRefusal (value a) before = before
 afterRefusal (refused number) before = before
 afterRefusal (refusedAt number place) before = pos place
+
+-- the call was not refused
+abbrev pub done : {A : Type 0} → Outcome A → Bool
+done (value a) = true
+done (refused number) = false
+done (refusedAt number place) = false
+
+-- what is returned tells whether the call was refused: it is 0 or more exactly if the call is done
+pub record Tells {A : Type 0} (returns : Outcome A → ℤ) (answer : Outcome A) : Type 0 where
+  pub exactly : nonNeg (returns answer) ≡ done answer

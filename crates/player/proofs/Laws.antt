@@ -1,0 +1,172 @@
+-- What each call returns is 0 or more exactly if the call is done: a refusal is below zero, and no value is.
+use Prim.Native.Nat.{ℕ}
+use mathlib.Core.Path.{_≡_, refl, ap}
+use mathlib.Core.Bool.{Bool, true, false, cond, not, _||_}
+use mathlib.Core.List.{List, _++_}
+use lib.IntN.{ℤ, pos, natAbs}
+use lib.Dec.{eqb, ltb}
+use lib.ListN.{length}
+use lib.Signed.{nonNeg}
+use Rattle.refusal.specs.Outcome.{Outcome, value, refused, refusedAt, mapValue}
+use Rattle.numbers.specs.Range.{outside}
+use Rattle.numbers.proofs.Integers.{or-no}
+use Rattle.numbers.proofs.Between.{within}
+use Rattle.calendar.specs.Range.{firstYear, lastYear, firstCount, lastCount}
+use Rattle.calendar.specs.Gregorian.{leapYear, monthLength, date, ValidDate}
+use Rattle.calendar.specs.Count.{weekday, dayOfYear}
+use Rattle.calendar.specs.Answers.{daysAnswer, civilAnswer, weekdayAnswer, leapAnswer, lastDayAnswer, dayOfYearAnswer, addDaysAnswer, ofDate}
+use Rattle.calendar.specs.declared.Date.{Date}
+use Rattle.calendar.proofs.Laws.{day-of-year-is-in-range}
+use Rattle.instant.specs.Answers.{badInstant, badTime, firstBad, dayAnswer, splitAnswer, joinAnswer, indexDaysAnswer}
+use Rattle.labels.specs.Digits.{fits}
+use Rattle.labels.specs.Written.{bytesWritten}
+use Rattle.labels.specs.Rfc3339.{decimals, dateShape, timeShape, labelText, instantLabel, readAnswer}
+use Rattle.labels.specs.Webvtt.{lastPosition, positionLabel}
+use Rattle.constants.specs.Least.{Found, at, none, leastBelow}
+use Rattle.constants.specs.Limits.{lastEnd, outsideLimits, endOutside, boundOutside}
+use Rattle.constants.specs.Answers.{difference, differenceAnswer, claimed, boundAnswer}
+use Rattle.player.specs.Returned.{returned, returnedCount, returnedFlag, returnedDone, returnedFound, done, Tells}
+
+-- what is told on either side of a test
+by-test :
+    {A : Type 0} (returns : Outcome A → ℤ) (test : Bool) (a b : Outcome A) → (test ≡ true → Tells returns a) → (test ≡ false → Tells returns b) →
+    Tells returns (cond test a b)
+by-test returns true a b f g = f refl
+by-test returns false a b f g = g refl
+
+-- a test that refuses, in front of what tells
+guarded :
+    {A : Type 0} (returns : Outcome A → ℤ) (test : Bool) (a b : Outcome A) → Tells returns a → Tells returns b → Tells returns (cond test a b)
+guarded returns test a b p q = by-test returns test a b (λ _. p) (λ _. q)
+
+told : {A : Type 0} {returns : Outcome A → ℤ} {answer : Outcome A} → nonNeg (returns answer) ≡ done answer → Tells returns answer
+told e = record { exactly = e }
+
+-- ---- dates
+
+of-date :
+    {A : Type 0} (f : Date → Outcome A) (year month day : ℤ) → Tells returnedDone (f (date year month day)) →
+    Tells returnedDone (ofDate year month day f)
+unfolding ofDate
+of-date f year month day t =
+    guarded returnedDone (outside firstYear lastYear year) _ _ (told refl)
+    (guarded returnedDone (outside (pos 1) (pos 12) month) _ _ (told refl)
+    (guarded returnedDone (outside (pos 1) (monthLength year month) day) _ _ (told refl) t))
+
+pub days-tell : (year month day : ℤ) → Tells returnedDone (daysAnswer year month day)
+unfolding daysAnswer
+days-tell year month day = of-date _ year month day (told refl)
+
+pub civil-tells : (days : ℤ) → Tells returnedDone (civilAnswer days)
+unfolding civilAnswer
+civil-tells days = guarded returnedDone (outside firstCount lastCount days) _ _ (told refl) (told refl)
+
+pub weekday-tells : (days : ℤ) → Tells returned (weekdayAnswer days)
+unfolding weekdayAnswer weekday
+weekday-tells days = guarded returned (outside firstCount lastCount days) _ _ (told refl) (told refl)
+
+flag-tells : (flag : Bool) → Tells returnedFlag (value flag)
+flag-tells true = told refl
+flag-tells false = told refl
+
+pub leap-tells : (year : ℤ) → Tells returnedFlag (leapAnswer year)
+unfolding leapAnswer
+leap-tells year = guarded returnedFlag (outside firstYear lastYear year) _ _ (told refl) (flag-tells (leapYear year))
+
+pub last-day-tells : (year month : ℤ) → Tells returned (lastDayAnswer year month)
+unfolding lastDayAnswer monthLength
+last-day-tells year month =
+    guarded returned (outside firstYear lastYear year) _ _ (told refl)
+    (guarded returned (outside (pos 1) (pos 12) month) _ _ (told refl) (told refl))
+
+pub day-of-year-tells : (year month day : ℤ) → Tells returned (dayOfYearAnswer year month day)
+unfolding dayOfYearAnswer ofDate
+day-of-year-tells year month day =
+    by-test returned (outside firstYear lastYear year) _ _ (λ _. told refl) (λ y.
+    by-test returned (outside (pos 1) (pos 12) month) _ _ (λ _. told refl) (λ m.
+    by-test returned (outside (pos 1) (monthLength year month) day) _ _ (λ _. told refl) (λ d. told (in-year (record { year-inside = y; month-inside = m; day-inside = d })))))
+  where
+    in-year : ValidDate (date year month day) → nonNeg (dayOfYear (date year month day)) ≡ true
+    in-year v =
+        ap nonNeg
+        (within 1 (cond (leapYear year) (pos 366) (pos 365)) (dayOfYear (date year month day)) (day-of-year-is-in-range (date year month day) v) .is)
+
+pub add-days-tells : (year month day days : ℤ) → Tells returnedDone (addDaysAnswer year month day days)
+unfolding addDaysAnswer
+add-days-tells year month day days = of-date _ year month day (civil-tells _)
+
+-- ---- instants
+
+pub day-tells : (instant : ℤ) → Tells returnedDone (dayAnswer instant)
+unfolding dayAnswer
+day-tells instant = guarded returnedDone (badInstant instant) _ _ (told refl) (told refl)
+
+pub split-tells : (instant : ℤ) → Tells returnedDone (splitAnswer instant)
+unfolding splitAnswer
+split-tells instant = guarded returnedDone (badInstant instant) _ _ (told refl) (told refl)
+
+pub join-tells :
+    (year month day hour minute second millisecond : ℤ) → Tells returnedDone (joinAnswer year month day hour minute second millisecond)
+unfolding joinAnswer
+join-tells year month day hour minute second millisecond =
+    of-date _ year month day (guarded returnedDone (badTime hour minute second millisecond) _ _ (told refl) (told refl))
+
+pub index-tells : (instants days : List ℤ) → Tells returnedCount (indexDaysAnswer instants days)
+unfolding indexDaysAnswer
+index-tells instants days =
+    guarded returnedCount (not (eqb (length instants) (length days))) _ _ (told refl)
+    (guarded returnedCount (ltb (firstBad instants) (length instants)) _ _ (told refl) (told refl))
+
+-- ---- labels
+
+-- what is written of a label tells if the label does
+written-tells : (label : Outcome (List ℕ)) (buffer : List ℕ) → Tells returnedDone label → Tells returnedCount (bytesWritten label buffer)
+written-tells (value text) buffer t = go (ltb (length buffer) (length text))
+  where
+    go : (short : Bool) → Tells returnedCount (mapValue length (cond short (refused 7) (value text)))
+    go true = told refl
+    go false = told refl
+written-tells (refused number) buffer t = told (t .exactly)
+written-tells (refusedAt number place) buffer t = told (t .exactly)
+
+map-tells : {A B : Type 0} (f : A → B) (answer : Outcome A) → Tells returnedDone answer → Tells returnedDone (mapValue f answer)
+map-tells f (value a) t = told refl
+map-tells f (refused number) t = told (t .exactly)
+map-tells f (refusedAt number place) t = told (t .exactly)
+
+pub write-instant-tells : (instant : ℤ) (buffer : List ℕ) → Tells returnedCount (bytesWritten (instantLabel instant) buffer)
+unfolding instantLabel
+write-instant-tells instant buffer = written-tells _ buffer (map-tells labelText (splitAnswer instant) (split-tells instant))
+
+pub write-position-tells : (position : ℤ) (buffer : List ℕ) → Tells returnedCount (bytesWritten (positionLabel position) buffer)
+unfolding positionLabel
+write-position-tells position buffer =
+    written-tells _ buffer (guarded returnedDone (outside (pos 0) lastPosition position) _ _ (told refl) (told refl))
+
+pub read-instant-tells : (label : List ℕ) → Tells returnedDone (readAnswer label)
+unfolding readAnswer
+read-instant-tells label =
+    guarded returnedDone (fits (dateShape ++ timeShape decimals) label) _ _ (join-tells _ _ _ _ _ _ _) (told refl)
+
+-- ---- constants
+
+found-tells : (end : ℤ) (found : Found) → endOutside end ≡ false → Tells (returnedFound end) (value found)
+found-tells end (at n) h = told refl
+found-tells end none h = told (ap nonNeg (within 0 (pos lastEnd) end h .is))
+
+pub difference-tells : (a b d m c k t end : ℤ) → Tells (returnedFound end) (differenceAnswer a b d m c k t end)
+unfolding differenceAnswer
+difference-tells a b d m c k t end =
+    by-test (returnedFound end) (outsideLimits a b d m c k t || endOutside end) _ _ (λ _. told refl)
+    (λ h. found-tells end _ (or-no (outsideLimits a b d m c k t) (endOutside end) h .1))
+
+claimed-tells : (below : Found) (here : Bool) → Tells returnedDone (claimed below here)
+claimed-tells (at n) here = told refl
+claimed-tells none true = told refl
+claimed-tells none false = told refl
+
+pub bound-tells : (a b d m c k t bound : ℤ) → Tells returnedDone (boundAnswer a b d m c k t bound)
+unfolding boundAnswer
+bound-tells a b d m c k t bound =
+    guarded returnedDone (outsideLimits a b d m c k t || boundOutside bound) _ _ (told refl)
+    (claimed-tells (leastBelow (difference a b d m c k t) (natAbs bound)) (difference a b d m c k t (natAbs bound)))
