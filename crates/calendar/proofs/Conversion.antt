@@ -11,20 +11,20 @@ use mir.Syntax.{w64}
 use mir.Val.{SFits, toZ, boolByte}
 use mir.Facts.{toZ-pos}
 use Rattle.numbers.proofs.Machine.{read, add-first, add-first-is}
-use Rattle.calendar.specs.Gregorian.{date, dateAfter}
-use Rattle.calendar.specs.Closed.{cycle, fromYear, baseYear, lastDay, firstFromMarch, leapDay, leaps, start, before, Valid, InRange, count, public, newYear, fromMarch, beforeMarch}
+use Rattle.calendar.specs.Gregorian.{dateOf, dateAfter}
+use Rattle.calendar.specs.Closed.{cycle, fromYear, baseYear, lastDay, firstFromMarch, leapDay, leaps, start, before, Valid, InRange, dayNumber, public, newYear, fromMarch, beforeMarch}
 use Rattle.calendar.proofs.Leap.{leaps-step, leaps-next}
 use Rattle.calendar.proofs.Months.{before-early, before-late}
 use Rattle.calendar.proofs.Steps.{count-in-range}
 use Rattle.calendar.proofs.March.{centuryOf, dayOfCentury, yearOfCentury, dayOfMarchYear, century-sum, algorithm-3}
 
 -- a date of natural numbers as the machine makes it
-made : (y m d : ℕ) → y < 2 ^ 32 → m < 2 ^ 32 → d < 2 ^ 32 → date (read (toZ w64 y +ℤ baseYear)) (toZ w64 m) (toZ w64 d) ≡ public y m d
+made : (y m d : ℕ) → y < 2 ^ 32 → m < 2 ^ 32 → d < 2 ^ 32 → dateOf (read (toZ w64 y +ℤ baseYear)) (toZ w64 m) (toZ w64 d) ≡ public y m d
 made y m d hy hm hd =
     let p = add-first-is baseYear y (omega arith) ∙ +ℤ-comm (pos y) baseYear in
     let q = toZ-pos w64 {n = m} (omega arith) in
     let r = toZ-pos w64 {n = d} (omega arith) in
-    λ i. date (p i) (q i) (r i)
+    λ i. dateOf (p i) (q i) (r i)
 
 -- the day as if every fourth year were leap, and the year that begins in March and its day as the code takes them from it
 abbrev pub regular : ℕ → ℕ
@@ -85,7 +85,7 @@ module _ (n : ℕ) (h : n ≤ lastDay) where
       go false e = omega arith
 
   pub date-made :
-      date (read (toZ w64 (marchYear n + newYear (marchDay n)) +ℤ baseYear)) (toZ w64 ((5 * marchDay n + 461) / 153 - 12 * newYear (marchDay n)))
+      dateOf (read (toZ w64 (marchYear n + newYear (marchDay n)) +ℤ baseYear)) (toZ w64 ((5 * marchDay n + 461) / 153 - 12 * newYear (marchDay n)))
       (toZ w64 (marchDay n + 1 - fromMarch ((5 * marchDay n + 461) / 153))) ≡ dateAfter n
   date-made =
       let k = marchDay n in
@@ -112,8 +112,8 @@ fewer y = omega arith
 abbrev pub daySum : (y m b d : ℕ) → ℕ
 daySum y m b d = 365 * y + (y - beforeMarch m) / 4 - (y - beforeMarch m) / 100 + (y - beforeMarch m) / 100 / 4 + b + d
 
-algorithm-4 : (y m d b : ℕ) → Valid y m d → fromYear ≤ y → b ≡ before 0 m → daySum y m b d ≡ count y m d
-unfolding count start
+algorithm-4 : (y m d b : ℕ) → Valid y m d → fromYear ≤ y → b ≡ before 0 m → daySum y m b d ≡ dayNumber y m d
+unfolding dayNumber start
 algorithm-4 y m d b v lo f = go (leb m 2) refl
   where
     go : (t : Bool) → leb m 2 ≡ t →
@@ -134,8 +134,8 @@ algorithm-4 y m d b v lo f = go (leb m 2) refl
 -- it is the day's number, and lies in the range
 pub day-number :
     (y m d b : ℕ) → InRange y m d → b ≡ before 0 m →
-    (daySum y m b d ≡ count y m d) × ((cycle ≤ daySum y m b d) × (daySum y m b d ≤ cycle + lastDay))
+    (daySum y m b d ≡ dayNumber y m d) × ((cycle ≤ daySum y m b d) × (daySum y m b d ≤ cycle + lastDay))
 day-number y m d b r e =
-    let s = algorithm-4 y m d b (r .valid) (r .from) e in
+    let s = algorithm-4 y m d b (r .is-valid) (r .from) e in
     let c = count-in-range y m d r in
     (s, (subst (λ n. cycle ≤ n) (sym s) (c .0), subst (λ n. n ≤ cycle + lastDay) (sym s) (c .1)))

@@ -11,17 +11,17 @@ use Rattle.refusal.specs.Numbers.{refusalNumber}
 use Rattle.refusal.specs.Outcome.{Outcome, value, refused}
 use Rattle.numbers.specs.Range.{outside, since}
 use Rattle.numbers.proofs.Integers.{inside, since-add}
-use Rattle.numbers.proofs.Between.{within}
+use Rattle.numbers.proofs.Between.{natural-within}
 use Rattle.numbers.proofs.Machine.{read}
 use Rattle.calendar.specs.declared.Date.{Date}
 use Rattle.calendar.specs.declared.Checked.{Checked}
 use Rattle.calendar.specs.declared.Checked.the-variants as C
 use Rattle.calendar.specs.Range.{firstYear, lastYear, firstCount, lastCount}
-use Rattle.calendar.specs.Gregorian.{monthLength, date, dateAfter, ValidDate}
+use Rattle.calendar.specs.Gregorian.{monthLength, dateOf, dateAfter, ValidDate}
 use Rattle.calendar.specs.Count.{dateOfCount, countOfDate, dayOfYear}
 use Rattle.calendar.specs.Answers.{lastDayAnswer, ofDate, daysAnswer, civilAnswer, addDaysAnswer}
 use Rattle.calendar.specs.Checked.{checkedOutcome}
-use Rattle.calendar.specs.Closed.{baseYear, baseCount, cycle, lastDay, leapDay, monthDays, before, Valid, InRange, count, public}
+use Rattle.calendar.specs.Closed.{baseYear, baseCount, cycle, lastDay, leapDay, monthDays, before, Valid, InRange, dayNumber, public}
 use Rattle.calendar.proofs.Leap.{leap-le}
 use Rattle.calendar.proofs.Months.{length-le, length-public, before-public}
 use Rattle.calendar.proofs.Steps.{found, count-in-range, count-after}
@@ -34,7 +34,7 @@ pub record NaturalDate (date : Date) : Type 0 where
   pub m : ℕ
   pub d : ℕ
   pub is : date ≡ public y m d
-  pub valid : Valid y m d
+  pub is-valid : Valid y m d
   pub in-range : InRange y m d
 
 pub natural : (d : Date) → ValidDate d → NaturalDate d
@@ -42,18 +42,18 @@ natural date v =
     let y = since baseYear (date .year) in
     let m = natAbs (date .month) in
     let p = sym (year-is (date .year) (v .year-inside)) in
-    let mo = within 1 (pos 12) (date .month) (v .month-inside) in
+    let mo = natural-within 1 (pos 12) (date .month) (v .month-inside) in
     let len : monthLength (date .year) (date .month) ≡ pos (monthDays (leapDay y) m) =
     (λ i. monthLength (p i) (mo .is i)) ∙ length-public y m (mo .low) (mo .high) in
-    let da = within 1 (pos (monthDays (leapDay y) m)) (date .day) (ap (λ l. outside (pos 1) l (date .day)) (sym len) ∙ v .day-inside) in
+    let da = natural-within 1 (pos (monthDays (leapDay y) m)) (date .day) (ap (λ l. outside (pos 1) l (date .day)) (sym len) ∙ v .day-inside) in
     let w : Valid y m (natAbs (date .day)) = record { month-low = mo .low; month-high = mo .high; day-low = da .low; day-high = da .high } in
     record {
       y = y;
       m = m;
       d = natAbs (date .day);
       is = (λ i. record { year = p i; month = mo .is i; day = da .is i });
-      valid = w;
-      in-range = record { valid = w; from = year-from (date .year) (v .year-inside); to = year-to (date .year) (v .year-inside) };
+      is-valid = w;
+      in-range = record { is-valid = w; from = year-from (date .year) (v .year-inside); to = year-to (date .year) (v .year-inside) };
     }
 
 pub day-small : (y m d : ℕ) → Valid y m d → d ≤ 31
@@ -62,23 +62,23 @@ day-small y m d v = let l = length-le (leapDay y) m (leap-le y) (v .month-low) (
 -- the count and the day of the year of a date in natural numbers
 module _ (y m d : ℕ) (r : InRange y m d) where
   pub offset : ℕ
-  offset = count y m d - cycle
+  offset = dayNumber y m d - cycle
 
   pub offset-le : offset ≤ lastDay
   unfolding offset
   offset-le = omega (arith, count-in-range y m d r .1)
 
-  offset-is : count y m d ≡ cycle + offset
+  offset-is : dayNumber y m d ≡ cycle + offset
   unfolding offset
   offset-is = omega (arith, count-in-range y m d r .0)
 
   pub date-is : dateAfter offset ≡ public y m d
-  date-is = found offset y m d (r .valid) offset-is
+  date-is = found offset y m d (r .is-valid) offset-is
 
   pub count-is : countOfDate (public y m d) ≡ firstCount +ℤ pos offset
   count-is = ap countOfDate (sym date-is) ∙ count-after offset offset-le
 
-  pub count-base : baseCount +ℤ pos (count y m d) ≡ countOfDate (public y m d)
+  pub count-base : baseCount +ℤ pos (dayNumber y m d) ≡ countOfDate (public y m d)
   count-base = ap (λ n. baseCount +ℤ pos n) offset-is ∙ sym (+ℤ-assoc baseCount (pos cycle) (pos offset)) ∙ sym count-is
 
 pub year-day : (y m d : ℕ) → Valid y m d → dayOfYear (public y m d) ≡ pos (before (leapDay y) m + d)
@@ -112,16 +112,16 @@ module _ (year month day len : ℤ) (e : value len ≡ lastDayAnswer year month)
   month-tests : (outside firstYear lastYear year ≡ false) × ((outside (pos 1) (pos 12) month ≡ false) × (len ≡ monthLength year month))
   month-tests = month-accepted year month len e
 
-  decided : {t : Bool} → outside (pos 1) len day ≡ t → ofDate year month day value ≡ cond t (refused 3) (value (date year month day))
+  decided : {t : Bool} → outside (pos 1) len day ≡ t → ofDate year month day value ≡ cond t (refused 3) (value (dateOf year month day))
   decided h =
       day-decides year month day value (month-tests .0) (month-tests .1 .0)
-      ∙ ap (λ t. cond t (refused 3) (value (date year month day))) (ap (λ l. outside (pos 1) l day) (sym (month-tests .1 .1)) ∙ h)
+      ∙ ap (λ t. cond t (refused 3) (value (dateOf year month day))) (ap (λ l. outside (pos 1) l day) (sym (month-tests .1 .1)) ∙ h)
 
   pub day-refused : outside (pos 1) len day ≡ true → refused 3 ≡ ofDate year month day value
   day-refused h = sym (decided h)
 
   module _ (h : outside (pos 1) len day ≡ false) where
-    pub day-accepted : ValidDate (date year month day)
+    pub day-accepted : ValidDate (dateOf year month day)
     day-accepted =
         record {
           year-inside = month-tests .0;
@@ -135,7 +135,7 @@ module _ (year month day len : ℤ) (e : value len ≡ lastDayAnswer year month)
         × InRange y (natAbs month) (natAbs day)
     unfolding natural
     date-accepted y p =
-        let n = natural (date year month day) day-accepted in
+        let n = natural (dateOf year month day) day-accepted in
         let q : since baseYear year ≡ y = ap (since baseYear) (sym p) ∙ since-add baseYear y in (
           ap value ((λ i. public (sym q i) (natAbs month) (natAbs day)) ∙ sym (n .is)) ∙ sym (decided h),
           subst (λ y. InRange y (natAbs month) (natAbs day)) q (n .in-range),
@@ -147,7 +147,7 @@ module _ (year month day z : ℤ) (h : value z ≡ daysAnswer year month day) wh
   unfolding daysAnswer
   days-inside =
       ap (outside firstCount lastCount) (accepted-is year month day countOfDate z h)
-      ∙ count-inside (date year month day) (accepted-valid year month day countOfDate z h)
+      ∙ count-inside (dateOf year month day) (accepted-valid year month day countOfDate z h)
 
   pub added : (p : ℤ) → addDaysAnswer year month day p ≡ civilAnswer (z +ℤ p)
   unfolding addDaysAnswer daysAnswer

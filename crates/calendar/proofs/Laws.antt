@@ -13,14 +13,15 @@ use Rattle.refusal.specs.Outcome.{value, refused}
 use Rattle.numbers.specs.Floor.{floorRemainder}
 use Rattle.numbers.specs.Range.{outside, since}
 use Rattle.refusal.proofs.Outcomes.{clash, passes, same-value}
-use Rattle.numbers.proofs.Integers.{no-both, outside-no, add-since, since-add, since-le, lt-add, add-injective}
+use Rattle.numbers.proofs.Integers.{outside-no, add-since, since-add, since-le, lt-add, add-injective}
 use Rattle.numbers.proofs.Between.{inside-pos, inside-from}
+use Rattle.numbers.proofs.Bools.{no-both}
 use Rattle.calendar.specs.declared.Date.{Date}
 use Rattle.calendar.specs.Range.{firstYear, lastYear, firstCount, lastCount}
-use Rattle.calendar.specs.Gregorian.{divides, leapYear, date, nextDay, dateAfter, ValidDate, Earlier, by-year, by-month, by-day}
+use Rattle.calendar.specs.Gregorian.{divides, leapYear, dateOf, nextDay, dateAfter, ValidDate, Earlier, by-year, by-month, by-day}
 use Rattle.calendar.specs.Count.{dateOfCount, countOfDate, weekday, weekdayAfter, dayOfYear}
 use Rattle.calendar.specs.Answers.{daysAnswer, civilAnswer, addDaysAnswer}
-use Rattle.calendar.specs.Closed.{fromYear, toYear, baseYear, cycle, lastDay, leapDay, leapℕ, leaps, start, monthDays, before, Valid, InRange, count, public}
+use Rattle.calendar.specs.Closed.{fromYear, toYear, baseYear, cycle, lastDay, leapDay, leapℕ, leaps, start, monthDays, before, Valid, InRange, dayNumber, public}
 use Rattle.calendar.proofs.Leap.{leap-public}
 use Rattle.calendar.proofs.Months.{length-public, within-year}
 use Rattle.calendar.proofs.Order.{Precedes, in-year, in-month, in-day, precedes-less, trichotomy}
@@ -50,7 +51,7 @@ date-of-count-of-date d v =
 -- a date of natural numbers in the years of the range is valid
 natural-valid : (y m d : ℕ) → InRange y m d → ValidDate (public y m d)
 natural-valid y m d r =
-    let v = r .valid in
+    let v = r .is-valid in
     record {
       year-inside = inside-from baseYear fromYear toYear y (r .from) (r .to);
       month-inside = inside-pos 1 12 m (v .month-low) (v .month-high);
@@ -85,13 +86,13 @@ days-of-civil z d h =
     let c = civil-value z d h in
     ap (λ (d : Date). daysAnswer (d .year) (d .month) (d .day)) (sym (c .1)) ∙ days-of-date-of-count z (c .0)
 
-pub date-of-days : (year month day z : ℤ) → daysAnswer year month day ≡ value z → dateOfCount z ≡ date year month day
+pub date-of-days : (year month day z : ℤ) → daysAnswer year month day ≡ value z → dateOfCount z ≡ dateOf year month day
 unfolding daysAnswer
 date-of-days year month day z h =
     ap dateOfCount (accepted-is year month day countOfDate z (sym h))
-    ∙ date-of-count-of-date (date year month day) (accepted-valid year month day countOfDate z (sym h))
+    ∙ date-of-count-of-date (dateOf year month day) (accepted-valid year month day countOfDate z (sym h))
 
-pub civil-of-days : (year month day z : ℤ) → daysAnswer year month day ≡ value z → civilAnswer z ≡ value (date year month day)
+pub civil-of-days : (year month day z : ℤ) → daysAnswer year month day ≡ value z → civilAnswer z ≡ value (dateOf year month day)
 unfolding civilAnswer
 civil-of-days year month day z h =
     ap (λ t. cond t (refused 4) (value (dateOfCount z))) (days-inside year month day z (sym h))
@@ -123,7 +124,7 @@ module _ (a b : ℕ) where
       let x = at a in
       let y = at b in
       let l =
-      precedes-less (x .year) (x .month) (x .day) (y .year) (y .month) (y .day) (x .valid) (y .valid)
+      precedes-less (x .year) (x .month) (x .day) (y .year) (y .month) (y .day) (x .is-valid) (y .is-valid)
       (down (x .year) (x .month) (x .day) (y .year) (y .month) (y .day) (subst (λ d. Earlier d (public (y .year) (y .month) (y .day))) (x .is) (subst (Earlier (dateAfter a)) (y .is) e))) in
       omega (arith, x .number, y .number)
 
@@ -133,8 +134,8 @@ module _ (a b : ℕ) where
       let y = at b in
       let w : Precedes (x .year) (x .month) (x .day) (y .year) (y .month) (y .day) =
       trichotomy (x .year) (x .month) (x .day) (y .year) (y .month) (y .day) (λ w. w)
-      (λ p q r. absurd (let e : count (x .year) (x .month) (x .day) ≡ count (y .year) (y .month) (y .day) = λ i. count (p i) (q i) (r i) in omega (arith, x .number, y .number)))
-      (λ w. absurd (let l = precedes-less (y .year) (y .month) (y .day) (x .year) (x .month) (x .day) (y .valid) (x .valid) w in omega (arith, x .number, y .number))) in
+      (λ p q r. absurd (let e : dayNumber (x .year) (x .month) (x .day) ≡ dayNumber (y .year) (y .month) (y .day) = λ i. dayNumber (p i) (q i) (r i) in omega (arith, x .number, y .number)))
+      (λ w. absurd (let l = precedes-less (y .year) (y .month) (y .day) (x .year) (x .month) (x .day) (y .is-valid) (x .is-valid) w in omega (arith, x .number, y .number))) in
       subst (λ d. Earlier d (dateAfter b)) (sym (x .is)) (subst (Earlier (public (x .year) (x .month) (x .day))) (sym (y .is)) (up (x .year) (x .month) (x .day) (y .year) (y .month) (y .day) w))
 
 module _ (a b : ℤ) (p : outside firstCount lastCount a ≡ false) (q : outside firstCount lastCount b ≡ false) where
@@ -152,16 +153,16 @@ module _ (a b : ℤ) (p : outside firstCount lastCount a ≡ false) (q : outside
       less-earlier (since firstCount a) (since firstCount b) (ltb-true (since firstCount a) (since firstCount b) (sym from-firsts ∙ h))
 
 -- the ends of the range
-pub first-count-is-first-date : civilAnswer firstCount ≡ value (date firstYear (pos 1) (pos 1))
+pub first-count-is-first-date : civilAnswer firstCount ≡ value (dateOf firstYear (pos 1) (pos 1))
 unfolding civilAnswer dateOfCount dateAfter
 first-count-is-first-date = refl
 
 -- the date of a count, by the closed forms: a valid date with the right number is the date
-pub date-at : (n y m d : ℕ) → Valid y m d → count y m d ≡ cycle + n → dateAfter n ≡ public y m d
+pub date-at : (n y m d : ℕ) → Valid y m d → dayNumber y m d ≡ cycle + n → dateAfter n ≡ public y m d
 date-at = found
 
-pub last-count-is-last-date : civilAnswer lastCount ≡ value (date lastYear (pos 12) (pos 31))
-unfolding civilAnswer dateOfCount count start leaps leapDay leapℕ before monthDays
+pub last-count-is-last-date : civilAnswer lastCount ≡ value (dateOf lastYear (pos 12) (pos 31))
+unfolding civilAnswer dateOfCount dayNumber start leaps leapDay leapℕ before monthDays
 last-count-is-last-date =
     ap value
     (found lastDay toYear 12 31
@@ -195,7 +196,7 @@ year-length y = rw (leap-public y) (go (leapℕ y))
 pub day-of-year-is-in-range : (d : Date) → ValidDate d → outside (pos 1) (cond (leapYear (d .year)) (pos 366) (pos 365)) (dayOfYear d) ≡ false
 day-of-year-is-in-range d v =
     let t = natural d v in
-    let w = t .valid in
+    let w = t .is-valid in
     let l = leapDay (t .y) in
     ap (λ (d : Date). outside (pos 1) (cond (leapYear (d .year)) (pos 366) (pos 365)) (dayOfYear d)) (t .is)
     ∙ ap₂ (outside (pos 1)) (year-length (t .y)) (year-day (t .y) (t .m) (t .d) w)

@@ -9,8 +9,8 @@ use mir.Syntax.{w64}
 use mir.Val.{SFits, toZ, ofZ, boolByte}
 use mir.Facts.{toZ-ofZ, toZ-pos}
 use Rattle.refusal.specs.Outcome.{value, refused}
-use Rattle.numbers.specs.Range.{outside}
-use Rattle.numbers.proofs.Between.{Within, within}
+use Rattle.numbers.specs.Range.{outside, Within}
+use Rattle.numbers.proofs.Between.{natural-within}
 use Rattle.numbers.proofs.Machine.{read, pos-fits, key-is}
 use Rattle.refusal.proofs.Outcomes.{passes, refuses, not-refused, same-value}
 use Rattle.calendar.specs.Range.{firstYear, lastYear}
@@ -31,7 +31,7 @@ module _ (month : ℤ) (f : SFits w64 month) where
     where
       go : (t : Bool) → outside (pos 1) (pos 12) month ≡ t → refused 2 ≡ cond t (refused 2) (value (pos (monthDays 0 (natAbs month))))
       go true e = refl
-      go false e = let n = within 1 (pos 12) month e in absurd (none (natAbs month) (n .low) (n .high) (ap (ofZ w64) (n .is)))
+      go false e = let n = natural-within 1 (pos 12) month e in absurd (none (natAbs month) (n .low) (n .high) (ap (ofZ w64) (n .is)))
 
 pub length-refused : (year month : ℤ) (k : ℕ) → outside firstYear lastYear year ≡ false → refused k ≡ commonLength month → refused k ≡ lastDayAnswer year month
 unfolding commonLength lastDayAnswer
@@ -56,7 +56,7 @@ module _ {year month len : ℤ} {y l : ℕ} (a : AcceptedMonth year month len y 
   passed = let p = passes (outside (pos 1) (pos 12) month) 2 _ (a .common) in (p .0, same-value (p .1))
 
   number : Within 1 12 month
-  number = within 1 (pos 12) month (passed .0)
+  number = natural-within 1 (pos 12) month (passed .0)
 
   days : monthDays 0 (natAbs month) + boolByte (eqb (ofZ w64 month) 2) * l ≡ monthDays (leapDay y) (natAbs month)
   days =

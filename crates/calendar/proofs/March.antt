@@ -10,7 +10,7 @@ use lib.Dec.{leb}
 use borrow.Author.Tests.{leb-true, leb-false}
 use mir.Val.{boolByte}
 use Rattle.calendar.specs.Gregorian.{dateAfter}
-use Rattle.calendar.specs.Closed.{cycle, firstFromMarch, leapDay, leaps, start, monthDays, before, Valid, count, public, newYear}
+use Rattle.calendar.specs.Closed.{cycle, firstFromMarch, leapDay, leaps, start, monthDays, before, Valid, dayNumber, public, newYear}
 use Rattle.calendar.proofs.Leap.{leap-le, leap-is-one, leaps-next}
 use Rattle.calendar.proofs.Months.{UpTo, up-to}
 use Rattle.calendar.proofs.Order.{start-step}
@@ -137,7 +137,7 @@ valid-date y m D lo hi h = record { month-low = lo; month-high = hi; day-low = o
 
 module _ (n C Z k : ℕ) (w : AfterMarch (cycle + n) C Z k) where
   from-march : k < 306 → dateAfter n ≡ public (100 * C + Z) ((5 * k + 461) / 153) ((5 * k + 461) % 153 / 5 + 1)
-  unfolding count
+  unfolding dayNumber
   from-march h =
       let y = 100 * C + Z in
       let m = (5 * k + 461) / 153 in
@@ -147,7 +147,7 @@ module _ (n C Z k : ℕ) (w : AfterMarch (cycle + n) C Z k) where
       (first-sum y _ _ _ _ k _ D (start-step y) (start-sum _ C Z k w) (r .0))
 
   from-january : k ≤ 365 → 306 ≤ k → dateAfter n ≡ public (100 * C + Z + 1) ((5 * k + 461) / 153 - 12) ((5 * k + 461) % 153 / 5 + 1)
-  unfolding count
+  unfolding dayNumber
   from-january b h =
       let y = 100 * C + Z + 1 in
       let m = (5 * k + 461) / 153 - 12 in

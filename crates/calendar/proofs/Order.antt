@@ -4,7 +4,7 @@ use mathlib.Core.Path.{_≡_, sym, ap, ap₂}
 use native.Mathlib.Decide.{decLt}
 use native.Mathlib.Numerals.{add-one}
 use native.Mathlib.Omega.{arith}
-use Rattle.calendar.specs.Closed.{leapDay, start, before, Valid, count}
+use Rattle.calendar.specs.Closed.{leapDay, start, before, Valid, dayNumber}
 use Rattle.calendar.proofs.Leap.{leaps-step}
 use Rattle.calendar.proofs.Months.{before-step, before-monotone, within-year, monotone}
 
@@ -16,8 +16,8 @@ pub start-monotone : (y z : ℕ) → y ≤ z → start y ≤ start z
 start-monotone = monotone start (λ y. rw (← add-one y) (omega (arith, start-step y)))
 
 -- a year's days lie between its start and the next year's
-pub within : (y m d : ℕ) → Valid y m d → (start y ≤ count y m d) × (count y m d < start (y + 1))
-unfolding count
+pub within : (y m d : ℕ) → Valid y m d → (start y ≤ dayNumber y m d) × (dayNumber y m d < start (y + 1))
+unfolding dayNumber
 within y m d v =
     (omega arith, omega (arith, start-step y, within-year (leapDay y) m d (v .month-low) (v .month-high) (v .day-low) (v .day-high)))
 
@@ -27,8 +27,8 @@ pub data Precedes (y m d y′ m′ d′ : ℕ) : Type 0 where
   in-month : y ≡ y′ → m < m′ → Precedes y m d y′ m′ d′
   in-day : y ≡ y′ → m ≡ m′ → d < d′ → Precedes y m d y′ m′ d′
 
-pub precedes-less : (y m d y′ m′ d′ : ℕ) → Valid y m d → Valid y′ m′ d′ → Precedes y m d y′ m′ d′ → count y m d < count y′ m′ d′
-unfolding count
+pub precedes-less : (y m d y′ m′ d′ : ℕ) → Valid y m d → Valid y′ m′ d′ → Precedes y m d y′ m′ d′ → dayNumber y m d < dayNumber y′ m′ d′
+unfolding dayNumber
 precedes-less y m d y′ m′ d′ v w (in-year h) =
     omega (arith, within y m d v .1, within y′ m′ d′ w .0, start-monotone (y + 1) y′ (omega arith))
 precedes-less y m d y′ m′ d′ v w (in-month p h) =

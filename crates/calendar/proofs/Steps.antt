@@ -8,12 +8,13 @@ use native.Mathlib.Omega.{arith, by-contra}
 use lib.IntN.{pos, natAbs, _+ℤ_, +ℤ-assoc}
 use borrow.Author.Tests.{lt-ltb, le-ltb}
 use Rattle.numbers.specs.Range.{eqZ}
-use Rattle.numbers.proofs.Integers.{eqZ-same, eqZ-true, add-injective, no-both}
+use Rattle.numbers.proofs.Integers.{eqZ-same, eqZ-true, add-injective}
+use Rattle.numbers.proofs.Bools.{no-both}
 use Rattle.calendar.specs.declared.Date.{Date}
 use Rattle.calendar.specs.Range.{firstCount}
-use Rattle.calendar.specs.Gregorian.{date, nextDay, firstDate, dateAfter}
+use Rattle.calendar.specs.Gregorian.{dateOf, nextDay, firstDate, dateAfter}
 use Rattle.calendar.specs.Count.{sameDate, daysUntil, countOfDate}
-use Rattle.calendar.specs.Closed.{fromYear, toYear, baseYear, cycle, lastDay, leapDay, leapℕ, leaps, start, monthDays, before, Valid, InRange, count, public}
+use Rattle.calendar.specs.Closed.{fromYear, toYear, baseYear, cycle, lastDay, leapDay, leapℕ, leaps, start, monthDays, before, Valid, InRange, dayNumber, public}
 use Rattle.calendar.proofs.Months.{length-positive, before-step, before-first, year-end, length-public}
 use Rattle.calendar.proofs.Order.{start-step, start-monotone, within, precedes-less, trichotomy}
 
@@ -30,38 +31,38 @@ next-of-years : (y d : ℕ) → monthDays (leapDay y) 12 ≤ d → nextDay (publ
 unfolding nextDay
 next-of-years y d h =
     rw (length-public y 12 (omega arith) (omega arith), le-ltb d (monthDays (leapDay y) 12) h)
-    (ap (λ z. date z (pos 1) (pos 1)) (+ℤ-assoc baseYear (pos y) (pos 1)))
+    (ap (λ z. dateOf z (pos 1) (pos 1)) (+ℤ-assoc baseYear (pos y) (pos 1)))
 
 -- the date n days after the first, in natural numbers
 pub record DateAt (n : ℕ) : Type 0 where
   pub year : ℕ
   pub month : ℕ
   pub day : ℕ
-  pub valid : Valid year month day
-  pub number : count year month day ≡ cycle + n
+  pub is-valid : Valid year month day
+  pub number : dayNumber year month day ≡ cycle + n
   pub is : dateAfter n ≡ public year month day
 
 at-first : DateAt 0
-unfolding dateAfter count start leaps leapDay leapℕ before monthDays
+unfolding dateAfter dayNumber start leaps leapDay leapℕ before monthDays
 at-first =
     record {
       year = fromYear;
       month = 1;
       day = 1;
-      valid = record { month-low = omega arith; month-high = omega arith; day-low = omega arith; day-high = omega arith };
+      is-valid = record { month-low = omega arith; month-high = omega arith; day-low = omega arith; day-high = omega arith };
       number = refl;
       is = refl;
     }
 
-after-month : (y m d : ℕ) → Valid y m d → d < monthDays (leapDay y) m → Valid y m (d + 1) × (count y m (d + 1) ≡ count y m d + 1)
-unfolding count
+after-month : (y m d : ℕ) → Valid y m d → d < monthDays (leapDay y) m → Valid y m (d + 1) × (dayNumber y m (d + 1) ≡ dayNumber y m d + 1)
+unfolding dayNumber
 after-month y m d v h = (
   record { month-low = v .month-low; month-high = v .month-high; day-low = omega arith; day-high = omega arith },
   omega (arith, v .day-low),
 )
 
-after-year : (y m d : ℕ) → Valid y m d → m < 12 → monthDays (leapDay y) m ≤ d → Valid y (m + 1) 1 × (count y (m + 1) 1 ≡ count y m d + 1)
-unfolding count
+after-year : (y m d : ℕ) → Valid y m d → m < 12 → monthDays (leapDay y) m ≤ d → Valid y (m + 1) 1 × (dayNumber y (m + 1) 1 ≡ dayNumber y m d + 1)
+unfolding dayNumber
 after-year y m d v k h = (
   record {
     month-low = omega arith;
@@ -72,8 +73,8 @@ after-year y m d v k h = (
   omega (arith, before-step (leapDay y) m, v .day-low, v .day-high),
 )
 
-after-years : (y d : ℕ) → Valid y 12 d → monthDays (leapDay y) 12 ≤ d → Valid (y + 1) 1 1 × (count (y + 1) 1 1 ≡ count y 12 d + 1)
-unfolding count
+after-years : (y d : ℕ) → Valid y 12 d → monthDays (leapDay y) 12 ≤ d → Valid (y + 1) 1 1 × (dayNumber (y + 1) 1 1 ≡ dayNumber y 12 d + 1)
+unfolding dayNumber
 after-years y d v h = (
   record {
     month-low = omega arith;
@@ -85,7 +86,7 @@ after-years y d v h = (
 )
 
 module _ (n : ℕ) (a : DateAt n) where
-  next-at : (y m d : ℕ) → Valid y m d × (count y m d ≡ count (a .year) (a .month) (a .day) + 1) →
+  next-at : (y m d : ℕ) → Valid y m d × (dayNumber y m d ≡ dayNumber (a .year) (a .month) (a .day) + 1) →
       nextDay (public (a .year) (a .month) (a .day)) ≡ public y m d → DateAt (suc n)
   unfolding dateAfter
   next-at y m d v e =
@@ -93,7 +94,7 @@ module _ (n : ℕ) (a : DateAt n) where
         year = y;
         month = m;
         day = d;
-        valid = v .0;
+        is-valid = v .0;
         number = let k = v .1 in omega (arith, a .number);
         is = ap nextDay (a .is) ∙ e;
       }
@@ -103,23 +104,23 @@ module _ (n : ℕ) (a : DateAt n) where
     where
       last-month : monthDays (leapDay (a .year)) (a .month) ≤ a .day → (a .month ≡ 12) → DateAt (suc n)
       last-month h e =
-          let v : Valid (a .year) 12 (a .day) = subst (λ m. Valid (a .year) m (a .day)) e (a .valid) in
+          let v : Valid (a .year) 12 (a .day) = subst (λ m. Valid (a .year) m (a .day)) e (a .is-valid) in
           let l : monthDays (leapDay (a .year)) 12 ≤ a .day = subst (λ m. monthDays (leapDay (a .year)) m ≤ a .day) e h in
           let w = after-years (a .year) (a .day) v l in
           next-at (a .year + 1) 1 1
-          (w .0, w .1 ∙ ap (λ m. count (a .year) m (a .day) + 1) (sym e))
+          (w .0, w .1 ∙ ap (λ m. dayNumber (a .year) m (a .day) + 1) (sym e))
           (ap (λ m. nextDay (public (a .year) m (a .day))) e ∙ next-of-years (a .year) (a .day) l)
 
       by-month : monthDays (leapDay (a .year)) (a .month) ≤ a .day → Dec (a .month < 12) → DateAt (suc n)
       by-month h (yes k) =
-          next-at (a .year) (a .month + 1) 1 (after-year (a .year) (a .month) (a .day) (a .valid) k h)
-          (next-in-year (a .year) (a .month) (a .day) (a .valid .month-low) k h)
-      by-month h (no k) = last-month h (omega (arith, a .valid .month-high))
+          next-at (a .year) (a .month + 1) 1 (after-year (a .year) (a .month) (a .day) (a .is-valid) k h)
+          (next-in-year (a .year) (a .month) (a .day) (a .is-valid .month-low) k h)
+      by-month h (no k) = last-month h (omega (arith, a .is-valid .month-high))
 
       by-length : Dec (a .day < monthDays (leapDay (a .year)) (a .month)) → DateAt (suc n)
       by-length (yes h) =
-          next-at (a .year) (a .month) (a .day + 1) (after-month (a .year) (a .month) (a .day) (a .valid) h)
-          (next-in-month (a .year) (a .month) (a .day) (a .valid .month-low) (a .valid .month-high) h)
+          next-at (a .year) (a .month) (a .day + 1) (after-month (a .year) (a .month) (a .day) (a .is-valid) h)
+          (next-in-month (a .year) (a .month) (a .day) (a .is-valid .month-low) (a .is-valid .month-high) h)
       by-length (no h) = by-month (omega arith) (decLt (a .month) 12)
 
 pub at : (n : ℕ) → DateAt n
@@ -127,25 +128,25 @@ at zero = at-first
 at (suc n) = at-next n (at n)
 
 -- a number has one date
-pub unique : (y m d y′ m′ d′ : ℕ) → Valid y m d → Valid y′ m′ d′ → count y m d ≡ count y′ m′ d′ → public y m d ≡ public y′ m′ d′
+pub unique : (y m d y′ m′ d′ : ℕ) → Valid y m d → Valid y′ m′ d′ → dayNumber y m d ≡ dayNumber y′ m′ d′ → public y m d ≡ public y′ m′ d′
 unique y m d y′ m′ d′ v w p =
     trichotomy y m d y′ m′ d′ (λ a. absurd (omega (arith, precedes-less y m d y′ m′ d′ v w a)))
     (λ q r s. λ i. public (q i) (r i) (s i))
     (λ a. absurd (omega (arith, precedes-less y′ m′ d′ y m d w v a)))
 
 -- whoever finds a valid date with the right number has found the date
-pub found : (n y m d : ℕ) → Valid y m d → count y m d ≡ cycle + n → dateAfter n ≡ public y m d
+pub found : (n y m d : ℕ) → Valid y m d → dayNumber y m d ≡ cycle + n → dateAfter n ≡ public y m d
 found n y m d v e =
     let a = at n in
-    a .is ∙ unique (a .year) (a .month) (a .day) y m d (a .valid) v (a .number ∙ sym e)
+    a .is ∙ unique (a .year) (a .month) (a .day) y m d (a .is-valid) v (a .number ∙ sym e)
 
 -- a date stands at one number
-count-public : (y m d y′ m′ d′ : ℕ) → public y m d ≡ public y′ m′ d′ → count y m d ≡ count y′ m′ d′
+count-public : (y m d y′ m′ d′ : ℕ) → public y m d ≡ public y′ m′ d′ → dayNumber y m d ≡ dayNumber y′ m′ d′
 count-public y m d y′ m′ d′ e =
     let p = add-injective baseYear y y′ (ap (λ (d : Date). d .year) e) in
     let q = ap (λ (d : Date). natAbs (d .month)) e in
     let r = ap (λ (d : Date). natAbs (d .day)) e in
-    λ i. count (p i) (q i) (r i)
+    λ i. dayNumber (p i) (q i) (r i)
 
 pub one-number : (a b : ℕ) → dateAfter a ≡ dateAfter b → a ≡ b
 one-number a b e =
@@ -203,9 +204,9 @@ start-end : start (toYear + 1) ≡ cycle + (lastDay + 1)
 unfolding start leaps
 start-end = refl
 
-pub count-in-range : (y m d : ℕ) → InRange y m d → (cycle ≤ count y m d) × (count y m d ≤ cycle + lastDay)
+pub count-in-range : (y m d : ℕ) → InRange y m d → (cycle ≤ dayNumber y m d) × (dayNumber y m d ≤ cycle + lastDay)
 count-in-range y m d r =
-    let w = within y m d (r .valid) in (
+    let w = within y m d (r .is-valid) in (
       omega (arith, start-first, start-monotone fromYear y (r .from), w .0),
       omega (arith, start-end, start-monotone (y + 1) (toYear + 1) (omega (arith, r .to)), w .1),
     )
@@ -213,9 +214,9 @@ count-in-range y m d r =
 pub at-in-range : (n : ℕ) → n ≤ lastDay → InRange (at n .year) (at n .month) (at n .day)
 at-in-range n h =
     let a = at n in
-    let w = within (a .year) (a .month) (a .day) (a .valid) in
+    let w = within (a .year) (a .month) (a .day) (a .is-valid) in
     record {
-      valid = a .valid;
+      is-valid = a .is-valid;
       from = by-contra _ _ (λ k. omega (arith, a .number, start-first, start-monotone (a .year + 1) fromYear (omega arith), w .1));
       to = by-contra _ _ (λ k. omega (arith, a .number, start-end, start-monotone (toYear + 1) (a .year) (omega arith), w .0));
     }

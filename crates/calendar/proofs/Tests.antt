@@ -12,7 +12,7 @@ use Rattle.numbers.specs.Range.{outside}
 use Rattle.numbers.proofs.Machine.{read}
 use Rattle.calendar.specs.declared.Date.{Date}
 use Rattle.calendar.specs.Range.{firstYear, lastYear}
-use Rattle.calendar.specs.Gregorian.{monthLength, date, ValidDate}
+use Rattle.calendar.specs.Gregorian.{monthLength, dateOf, ValidDate}
 use Rattle.calendar.specs.Answers.{lastDayAnswer, ofDate, daysAnswer}
 
 -- year and month
@@ -36,7 +36,7 @@ month-refused year month day f k =
 pub day-decides :
     {A : Type 0} (year month day : ℤ) (f : Date → Outcome A) → outside firstYear lastYear year ≡ false →
     outside (pos 1) (pos 12) month ≡ false →
-    ofDate year month day f ≡ cond (outside (pos 1) (monthLength year month) day) (refused 3) (f (date year month day))
+    ofDate year month day f ≡ cond (outside (pos 1) (monthLength year month) day) (refused 3) (f (dateOf year month day))
 unfolding ofDate
 day-decides year month day f p q = rw (p, q)
 
@@ -50,7 +50,7 @@ valid-answer d f v =
 module _ {B : Type 0} (year month day : ℤ) (g : Date → B) (z : B) (h : value z ≡ ofDate year month day (λ d. value (g d))) where
   passed :
       (outside firstYear lastYear year ≡ false) × ((outside (pos 1) (pos 12) month ≡ false)
-      × ((outside (pos 1) (monthLength year month) day ≡ false) × (z ≡ g (date year month day))))
+      × ((outside (pos 1) (monthLength year month) day ≡ false) × (z ≡ g (dateOf year month day))))
   unfolding ofDate
   passed =
       let a = passes (outside firstYear lastYear year) 1 _ h in
@@ -58,14 +58,14 @@ module _ {B : Type 0} (year month day : ℤ) (g : Date → B) (z : B) (h : value
       let c = passes (outside (pos 1) (monthLength year month) day) 3 _ (b .1) in
       (a .0, (b .0, (c .0, same-value (c .1))))
 
-  pub accepted-valid : ValidDate (date year month day)
+  pub accepted-valid : ValidDate (dateOf year month day)
   accepted-valid = record { year-inside = passed .0; month-inside = passed .1 .0; day-inside = passed .1 .1 .0 }
 
-  pub accepted-is : z ≡ g (date year month day)
+  pub accepted-is : z ≡ g (dateOf year month day)
   accepted-is = passed .1 .1 .1
 
-  pub accepted-answer : {A : Type 0} (f : Date → Outcome A) → ofDate year month day f ≡ f (date year month day)
-  accepted-answer f = valid-answer (date year month day) f accepted-valid
+  pub accepted-answer : {A : Type 0} (f : Date → Outcome A) → ofDate year month day f ≡ f (dateOf year month day)
+  accepted-answer f = valid-answer (dateOf year month day) f accepted-valid
 
 -- a refused date is refused alike by every call
 pub date-refused :

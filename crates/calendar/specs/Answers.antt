@@ -5,7 +5,7 @@ use Rattle.refusal.specs.Numbers.{refusalNumber}
 use Rattle.refusal.specs.Outcome.{Outcome, value, refused}
 use Rattle.numbers.specs.Range.{outside}
 use Rattle.calendar.specs.Range.{firstYear, lastYear, firstCount, lastCount}
-use Rattle.calendar.specs.Gregorian.{leapYear, monthLength, date}
+use Rattle.calendar.specs.Gregorian.{leapYear, monthLength, dateOf}
 use Rattle.calendar.specs.Count.{dateOfCount, countOfDate, weekday, dayOfYear}
 use Rattle.calendar.specs.declared.Date.{Date}
 use Rattle.calendar.specs.declared.DateAnswer.{DateAnswer}
@@ -37,7 +37,7 @@ unfoldable pub ofDate : {A : Type 0} → (year month day : ℤ) → (Date → Ou
 ofDate year month day answer =
     cond (outside firstYear lastYear year) (refused 1)
     (cond (outside (pos 1) (pos 12) month) (refused 2)
-    (cond (outside (pos 1) (monthLength year month) day) (refused 3) (answer (date year month day))))
+    (cond (outside (pos 1) (monthLength year month) day) (refused 3) (answer (dateOf year month day))))
 
 unfoldable pub daysAnswer : (year month day : ℤ) → Outcome ℤ
 daysAnswer year month day = ofDate year month day (λ d. value (countOfDate d))

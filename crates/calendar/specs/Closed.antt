@@ -10,7 +10,7 @@ use lib.ListN.{getD}
 use mir.Val.{boolByte}
 use Rattle.numbers.specs.Range.{since}
 use Rattle.calendar.specs.Range.{firstYear, lastYear, firstCount, lastCount}
-use Rattle.calendar.specs.Gregorian.{date}
+use Rattle.calendar.specs.Gregorian.{dateOf}
 use Rattle.calendar.specs.declared.Date.{Date}
 
 -- the years and the days after which the calendar repeats itself
@@ -76,17 +76,17 @@ pub record Valid (y m d : ℕ) : Type 0 where
 
 -- and the year is one of the range
 pub record InRange (y m d : ℕ) : Type 0 where
-  pub valid : Valid y m d
+  pub is-valid : Valid y m d
   pub from : fromYear ≤ y
   pub to : y ≤ toYear
 
 -- the day of a date, counted from 1 January of baseYear
-unfoldable pub count : (y m d : ℕ) → ℕ
-count y m d = start y + before (leapDay y) m + (d - 1)
+unfoldable pub dayNumber : (y m d : ℕ) → ℕ
+dayNumber y m d = start y + before (leapDay y) m + (d - 1)
 
 -- the date with the year baseYear + y
 abbrev pub public : (y m d : ℕ) → Date
-public y m d = date (baseYear +ℤ pos y) (pos m) (pos d)
+public y m d = dateOf (baseYear +ℤ pos y) (pos m) (pos d)
 
 -- 1 for the days of January and February, the last of a year that begins on 1 March: Remark 1 of source document 000
 abbrev pub newYear : ℕ → ℕ

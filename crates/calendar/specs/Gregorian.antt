@@ -27,20 +27,20 @@ monthLengths leap = 31 ∷ cond leap 29 28 ∷ 31 ∷ 30 ∷ 31 ∷ 30 ∷ 31 �
 unfoldable pub monthLength : (y m : ℤ) → ℤ
 monthLength y m = pos (getD (monthLengths (leapYear y)) (natAbs m - 1) 0)
 
-abbrev pub date : (year month day : ℤ) → Date
-date year month day = record { year = year; month = month; day = day }
+abbrev pub dateOf : (year month day : ℤ) → Date
+dateOf year month day = record { year = year; month = month; day = day }
 
 -- the day after
 unfoldable pub nextDay : Date → Date
 nextDay d =
     cond (ltZ (d .day) (monthLength (d .year) (d .month)))
-    (date (d .year) (d .month) (d .day +ℤ pos 1))
+    (dateOf (d .year) (d .month) (d .day +ℤ pos 1))
     (cond (ltZ (d .month) (pos 12))
-    (date (d .year) (d .month +ℤ pos 1) (pos 1))
-    (date (d .year +ℤ pos 1) (pos 1) (pos 1)))
+    (dateOf (d .year) (d .month +ℤ pos 1) (pos 1))
+    (dateOf (d .year +ℤ pos 1) (pos 1) (pos 1)))
 
 abbrev pub firstDate : Date
-firstDate = date firstYear (pos 1) (pos 1)
+firstDate = dateOf firstYear (pos 1) (pos 1)
 
 -- the date n days after the first
 unfoldable pub dateAfter : ℕ → Date

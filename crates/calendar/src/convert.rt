@@ -9,7 +9,7 @@ use crate::Date;
 ghost use mathlib.Core.Path.{_≡_};
 ghost use Prim.Native.Nat.{_≤_, _+_};
 ghost use Rattle.calendar.specs.Gregorian.{dateAfter};
-ghost use Rattle.calendar.specs.Closed.{cycle, lastDay, InRange, count};
+ghost use Rattle.calendar.specs.Closed.{cycle, lastDay, InRange, dayNumber};
 
 // The first day of the range, counted from 1 March of BASE_YEAR: January and February of a leap year have 60 days.
 const FIRST_FROM_MARCH: u32 = CYCLE - 60;
@@ -38,7 +38,7 @@ pub fn date_after(n: u32) -> Date
 // makes up for the first day of a month being day 1.
 pub fn days_since_base(y: u32, m: u32, d: u32) -> u32
     requires { ⌜ InRange y m d ⌝ }
-    ensures { λ r. ⌜ (r ≡ count y m d) × ((cycle ≤ r) × (r ≤ cycle + lastDay)) ⌝ }
+    ensures { λ r. ⌜ (r ≡ dayNumber y m d) × ((cycle ≤ r) × (r ≤ cycle + lastDay)) ⌝ }
 {
     let y_m = y - (m <= 2) as u32; // [399, toYear], from March to February
     let c = y_m / 100; // [3, toYear / 100]

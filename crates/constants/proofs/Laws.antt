@@ -10,11 +10,11 @@ use borrow.Author.Tests.{ltb-true, ltb-false, lt-ltb, le-ltb}
 use lib.IntN.{ℤ, pos, natAbs}
 use Rattle.refusal.specs.Outcome.{Outcome, value, refused, refusedAt}
 use Rattle.refusal.proofs.Outcomes.{clash}
-use Rattle.numbers.proofs.Integers.{no-both}
+use Rattle.numbers.proofs.Bools.{no-both}
 use Rattle.constants.specs.Difference.{exactQuotient, deviceQuotient, apart, differs}
 use Rattle.constants.specs.Least.{Found, at, none, leastBelow, NoneBelow, FirstAt}
 use Rattle.constants.specs.Limits.{outsideLimits, endOutside, boundOutside}
-use Rattle.constants.specs.Answers.{difference, Accepted, accepted, differenceAnswer, claimed, boundAnswer}
+use Rattle.constants.specs.Answers.{difference, Acceptance, accepted, differenceAnswer, claimed, boundAnswer}
 use Rattle.constants.proofs.Least.{finds-at, finds-none, least-stays}
 
 -- the answers by what is found below the end or the bound, and whether there is a difference at the bound
@@ -114,14 +114,14 @@ module _ (a b d m c k t : ℕ) where
 
   -- the claim
   module _ (B : ℕ) (inside : (outsideLimits (pos a) (pos b) (pos d) (pos m) (pos c) (pos k) (pos t) || boundOutside (pos B)) ≡ false) where
-    abbrev pub answer : Outcome Accepted
+    abbrev pub answer : Outcome Acceptance
     answer = boundAnswer (pos a) (pos b) (pos d) (pos m) (pos c) (pos k) (pos t) (pos B)
 
     claim-is : answer ≡ claimed (leastBelow D B) (D B)
     unfolding boundAnswer
     claim-is = rw inside
 
-    same : {x : Outcome Accepted} → (answer ≡ x) ↔ (claimed (leastBelow D B) (D B) ≡ x)
+    same : {x : Outcome Acceptance} → (answer ≡ x) ↔ (claimed (leastBelow D B) (D B) ≡ x)
     same = (λ e. sym claim-is ∙ e, λ e. claim-is ∙ e)
 
     -- "For any multiplier, offset, shift, exact fraction, tolerance and claimed bound within the listed limits, the constants checker

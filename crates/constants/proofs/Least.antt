@@ -5,7 +5,7 @@ use mathlib.Core.Bool.{Bool, true, false, cond}
 use mathlib.Core.Logic.{_↔_}
 use native.Mathlib.Decide.{decLt}
 use native.Mathlib.Omega.{arith}
-use Rattle.numbers.proofs.Integers.{no-both}
+use Rattle.numbers.proofs.Bools.{no-both}
 use Rattle.constants.specs.Least.{Found, at, none, orElse, leastBelow, NoneBelow, FirstAt}
 
 module _ (test : ℕ → Bool) where

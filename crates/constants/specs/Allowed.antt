@@ -29,7 +29,7 @@ pub record Allowed (q : Constants) : Type 0 where
 pub record Passed (a b d m c k t end last : ℤ) (q : Constants) (n : ℕ) : Type 0 where
   pub inside : (outsideLimits a b d m c k t || outside (pos 0) last end) ≡ false
   pub q-is : q ≡ constantsOf a b d m c k t
-  pub allowed : Allowed q
+  pub limits-kept : Allowed q
   pub end-is : n ≡ natAbs end
   pub end-le : n ≤ natAbs last
 

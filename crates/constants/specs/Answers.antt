@@ -29,18 +29,18 @@ unfoldable pub differenceAnswer : (a b d m c k t end : ℤ) → Outcome Found
 differenceAnswer a b d m c k t end =
     searched (outsideLimits a b d m c k t || endOutside end) (difference a b d m c k t) end
 
-pub data Accepted : Type 0 where
-  accepted : Accepted
+pub data Acceptance : Type 0 where
+  accepted : Acceptance
 
 -- the claim, from the least difference below B and whether there is one at B: 10 with the least n if "a difference stands
 -- below B", accepted "exactly if the least difference is at B", 11 if there is "no difference at or below B"
-abbrev pub claimed : (below : Found) (here : Bool) → Outcome Accepted
+abbrev pub claimed : (below : Found) (here : Bool) → Outcome Acceptance
 claimed (at n) here = refusedAt 10 n
 claimed none true = value accepted
 claimed none false = refused 11
 
 -- the claim: 9, then 10 or 11, or accepted
-unfoldable pub boundAnswer : (a b d m c k t bound : ℤ) → Outcome Accepted
+unfoldable pub boundAnswer : (a b d m c k t bound : ℤ) → Outcome Acceptance
 boundAnswer a b d m c k t bound =
     cond (outsideLimits a b d m c k t || boundOutside bound)
     (refused 9)
@@ -54,7 +54,7 @@ searchOutcome (search.At n) = value (at n)
 searchOutcome search.NoneBelow = value none
 searchOutcome (search.Refused why) = refused (refusalNumber why)
 
-abbrev pub claimOutcome : ClaimAnswer → Outcome Accepted
+abbrev pub claimOutcome : ClaimAnswer → Outcome Acceptance
 claimOutcome claim.Accepted = value accepted
 claimOutcome (claim.Refused why) = refused (refusalNumber why)
 claimOutcome (claim.RefusedAt why n) = refusedAt (refusalNumber why) n

@@ -3,7 +3,7 @@
 use Prim.Native.Nat.{ℕ}
 use lib.IntN.{ℤ, pos}
 use mathlib.Core.Bool.{Bool, _||_}
-use Rattle.numbers.specs.Range.{outside}
+use Rattle.numbers.specs.Range.{outside, Within}
 
 -- the first allowed number, where it is not 0
 abbrev pub firstA : ℕ
@@ -55,3 +55,13 @@ endOutside end = outside (pos 0) (pos lastEnd) end
 -- the claimed bound B is outside its limits
 abbrev pub boundOutside : (bound : ℤ) → Bool
 boundOutside bound = outside (pos 0) (pos lastBound) bound
+
+-- every constant is a natural number in its limits
+pub record AllWithin (a b d m c k t : ℤ) : Type 0 where
+  pub a-in : Within firstA lastA a
+  pub b-in : Within 0 lastB b
+  pub d-in : Within firstD lastD d
+  pub m-in : Within 0 lastM m
+  pub c-in : Within 0 lastC c
+  pub k-in : Within 0 lastK k
+  pub t-in : Within 0 lastT t

@@ -12,7 +12,7 @@ use Rattle.numbers.proofs.Machine.{read}
 use Rattle.refusal.proofs.Outcomes.{clash, passes, refuses, not-refused, same-value}
 use Rattle.calendar.specs.declared.Date.{Date}
 use Rattle.calendar.specs.Range.{firstYear, lastYear, firstCount, lastCount}
-use Rattle.calendar.specs.Gregorian.{monthLength, date}
+use Rattle.calendar.specs.Gregorian.{monthLength, dateOf}
 use Rattle.calendar.specs.Count.{countOfDate}
 use Rattle.calendar.specs.Answers.{ofDate, daysAnswer}
 use Rattle.calendar.proofs.Tests.{accepted-is, accepted-answer, date-refused}
@@ -124,7 +124,7 @@ module _ (year month day hour minute second fraction instant : ℤ) where
           let g : Date → ℤ = λ d. countOfDate d *ℤ pos perDay +ℤ timeOfFields hour minute second fraction in
           record {
             not-bad = h;
-            count = countOfDate (date year month day);
+            count = countOfDate (dateOf year month day);
             days = sym (accepted-answer year month day g instant e (λ d. value (countOfDate d)));
             is = accepted-is year month day g instant e;
           }

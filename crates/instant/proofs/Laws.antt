@@ -11,7 +11,7 @@ use Rattle.numbers.proofs.Floor.{quotient-and-remainder}
 use Rattle.numbers.proofs.Quotients.{quotient-monotone, quotient-is, remainder-is}
 use Rattle.refusal.proofs.Outcomes.{passes, same-value}
 use Rattle.calendar.specs.Range.{firstCount, lastCount}
-use Rattle.calendar.specs.Gregorian.{date}
+use Rattle.calendar.specs.Gregorian.{dateOf}
 use Rattle.calendar.specs.Count.{dateOfCount}
 use Rattle.calendar.proofs.Dates.{days-inside}
 use Rattle.calendar.proofs.Laws.{days-of-date-of-count, date-of-days}
@@ -76,13 +76,13 @@ join-split year month day hour minute second fraction instant e =
     ap splitAnswer is ∙ ap (λ b. cond b (refused 4) (value (fieldsOf (z *ℤ pos perDay +ℤ pos n)))) (instant-inside z i n l)
     ∙ ap value
     (ap₂ fieldsAt (ap dateOfCount (quotient-is perDay n l z) ∙ date-of-days year month day z (sym (a .days))) (remainder-is perDay n l z)
-    ∙ fields-back hour minute second fraction t (date year month day))
+    ∙ fields-back hour minute second fraction t (dateOf year month day))
 
 -- the date in the fields is that of the instant's day, which lies in the calendar's range
 pub split-date :
     (instant : ℤ) (f : Fields) → splitAnswer instant ≡ value f →
-    (outside firstCount lastCount (dayOf instant) ≡ false) × (date (f .year) (f .month) (f .day) ≡ dateOfCount (dayOf instant))
+    (outside firstCount lastCount (dayOf instant) ≡ false) × (dateOf (f .year) (f .month) (f .day) ≡ dateOfCount (dayOf instant))
 unfolding fieldsOf fieldsAt
 split-date instant f e =
     let a = split-accepted instant f e in
-    (day-inside instant (a .0), ap (λ (f : Fields). date (f .year) (f .month) (f .day)) (sym (a .1)))
+    (day-inside instant (a .0), ap (λ (f : Fields). dateOf (f .year) (f .month) (f .day)) (sym (a .1)))

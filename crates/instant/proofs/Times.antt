@@ -4,39 +4,39 @@ use mathlib.Core.Path.{_≡_, sym, ap, ap₂, _∙_}
 use mathlib.Core.Bool.{false, _||_}
 use native.Mathlib.Omega.{arith}
 use lib.IntN.{ℤ, pos, natAbs}
-use Rattle.numbers.specs.Range.{outside}
-use Rattle.numbers.proofs.Between.{Within, within, inside-pos}
-use Rattle.numbers.proofs.Integers.{or-no}
+use Rattle.numbers.specs.Range.{outside, Within}
+use Rattle.numbers.proofs.Between.{natural-within, inside-pos}
+use Rattle.numbers.proofs.Bools.{or-no}
 use Rattle.calendar.specs.declared.Date.{Date}
 use Rattle.instant.specs.Units.{perSecond, perMinute, perHour, perDay}
 use Rattle.instant.specs.Instant.{fieldsWith, fieldsAt, timeOfFields}
 use Rattle.instant.specs.Answers.{badTime}
 
 -- the fields of a time of day in natural numbers
-pub record Time (hour minute second fraction : ℤ) : Type 0 where
+pub record NaturalTime (hour minute second fraction : ℤ) : Type 0 where
   pub hour-within : Within 0 23 hour
   pub minute-within : Within 0 59 minute
   pub second-within : Within 0 59 second
   pub fraction-within : Within 0 (perSecond - 1) fraction
 
 module _ (hour minute second fraction : ℤ) where
-  pub natural : badTime hour minute second fraction ≡ false → Time hour minute second fraction
+  pub natural : badTime hour minute second fraction ≡ false → NaturalTime hour minute second fraction
   natural e =
       let a = or-no (outside (pos 0) (pos 23) hour) _ e in
       let b = or-no (outside (pos 0) (pos 59) minute) _ (a .1) in
       let c = or-no (outside (pos 0) (pos 59) second) _ (b .1) in
       record {
-        hour-within = within 0 (pos 23) hour (a .0);
-        minute-within = within 0 (pos 59) minute (b .0);
-        second-within = within 0 (pos 59) second (c .0);
-        fraction-within = within 0 (pos (perSecond - 1)) fraction (c .1);
+        hour-within = natural-within 0 (pos 23) hour (a .0);
+        minute-within = natural-within 0 (pos 59) minute (b .0);
+        second-within = natural-within 0 (pos 59) second (c .0);
+        fraction-within = natural-within 0 (pos (perSecond - 1)) fraction (c .1);
       }
 
   -- the time of day
   unfoldable pub timeℕ : ℕ
   timeℕ = natAbs hour * perHour + natAbs minute * perMinute + natAbs second * perSecond + natAbs fraction
 
-  module _ (t : Time hour minute second fraction) where
+  module _ (t : NaturalTime hour minute second fraction) where
     pub time-is : timeOfFields hour minute second fraction ≡ pos timeℕ
     unfolding timeOfFields timeℕ
     time-is = λ i. timeOfFields (t .hour-within .is i) (t .minute-within .is i) (t .second-within .is i) (t .fraction-within .is i)

@@ -1,7 +1,7 @@
 -- Numbers and their digits.
 use Prim.Native.Nat.{ℕ, zero, suc, _+_, _-_, _*_, _/_, _%_, _^_, _≤_, _<_}
 use mathlib.Core.Path.{_≡_, refl, sym, ap, ap₂, _∙_}
-use mathlib.Core.Bool.{Bool, true, false, _&&_}
+use mathlib.Core.Bool.{Bool, true, _&&_}
 use mathlib.Core.List.{List, [], _∷_, _++_, append-nil}
 use native.Mathlib.Nat.{pow-suc, pow-le-pow-right}
 use native.Mathlib.Numerals.{add-one}
@@ -10,7 +10,7 @@ use borrow.Author.Tests.{leb-true, le-leb}
 use lib.Dec.{leb, lit<}
 use lib.ListN.{length, drop, length-append, drop-of-length-le}
 use lib.Seq.{append-snoc, drop-append-le}
-use Rattle.refusal.proofs.Outcomes.{clash}
+use Rattle.numbers.proofs.Bools.{and-left, and-right}
 use Rattle.labels.specs.Digits.{digits, numberFrom, number, isDigit}
 
 -- ---- powers of ten
@@ -22,14 +22,6 @@ pub power-small : (i : ℕ) → i ≤ 7 → 10 ^ i ≤ 10000000
 power-small i h = pow-le-pow-right {n = 10} (lit< tt) h
 
 -- ---- a digit
-
-pub and-left : (a b : Bool) → a && b ≡ true → a ≡ true
-and-left true b h = refl
-and-left false b h = h
-
-pub and-right : (a b : Bool) → a && b ≡ true → b ≡ true
-and-right true b h = h
-and-right false b h = clash (cc)
 
 pub digit-range : (byte : ℕ) → isDigit byte ≡ true → (48 ≤ byte) × (byte ≤ 57)
 digit-range byte h = (leb-true 48 byte (and-left (leb 48 byte) _ h), leb-true byte 57 (and-right (leb 48 byte) _ h))

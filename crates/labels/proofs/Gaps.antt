@@ -7,11 +7,11 @@ use native.Mathlib.Omega.{arith}
 use lib.Bits.{bitAnd, bitXor, and-block, xor-block, xor-lt}
 use lib.Dec.{eqb, lit<}
 use lib.ListN.{length, getD, replicate}
+use Rattle.numbers.proofs.Bools.{and-left, and-right}
 use Rattle.labels.specs.Digits.{fitsOne, fits}
 use Rattle.labels.specs.Words.{word, maskOne, mask, above}
-use Rattle.labels.proofs.Decimal.{and-left, and-right}
 use Rattle.labels.proofs.Words.{AllLe}
-use Rattle.labels.proofs.OneByte.{high, low-of, value-le, fit, settle}
+use Rattle.labels.proofs.OneByte.{high, low-of, value-le, when-fits, settle}
 
 abbrev pub gaps : (shape text : List ℕ) → List ℕ
 gaps [] text = []
@@ -71,11 +71,11 @@ all-fit (s ∷ ss) [] h f = absurd (omega (arith, h .0))
 all-fit (s ∷ ss) (b ∷ bs) h f =
     let hs = h .1 .0 .0 in
     let hb = h .1 .1 .0 in
-    let o = fit s b hs hb (and-left (fitsOne s b) (fits ss bs) f) in
+    let o = when-fits s b hs hb (and-left (fitsOne s b) (fits ss bs) f) in
     let r = all-fit ss bs (rest-both s b ss bs h) (and-right (fitsOne s b) (fits ss bs) f) in
     record {
       gaps-are = ap₂ _∷_ (o .gap-is) (r .gaps-are);
-      all-settled = and-mask-gaps s b ss bs hs hb ∙ ap₂ (λ x y. x * 256 + y) (r .all-settled) (o .settled);
+      all-settled = and-mask-gaps s b ss bs hs hb ∙ ap₂ (λ x y. x * 256 + y) (r .all-settled) (o .mask-clear);
     }
 
 -- both parts of a number in two parts are 0 where it is

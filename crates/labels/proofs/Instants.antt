@@ -10,10 +10,10 @@ use lib.Signed.{nonNeg}
 use mir.Syntax.{w32}
 use mir.Val.{Fits}
 use Rattle.refusal.specs.Outcome.{value}
-use Rattle.numbers.specs.Range.{outside}
+use Rattle.numbers.specs.Range.{outside, Within}
 use Rattle.numbers.proofs.Machine.{read}
-use Rattle.numbers.proofs.Between.{Within, inside-pos, abs-read, cast-small, read-below}
-use Rattle.calendar.specs.Gregorian.{date}
+use Rattle.numbers.proofs.Between.{inside-pos, abs-read, cast-small, read-below}
+use Rattle.calendar.specs.Gregorian.{dateOf}
 use Rattle.calendar.specs.Answers.{daysAnswer}
 use Rattle.calendar.specs.declared.Date.{Date}
 use Rattle.calendar.specs.Count.{countOfDate}
@@ -45,12 +45,12 @@ unfolding daysAnswer
 joined-narrow year month day hour minute second fraction instant e =
     let a = join-accepted year month day hour minute second fraction instant (sym e) in
     let v = accepted-valid year month day countOfDate (a .count) (a .days) in
-    let n = calendar.natural (date year month day) v in
+    let n = calendar.natural (dateOf year month day) v in
     let c = times.natural hour minute second fraction (a .not-bad) in
     record {
       year-within = v .year-inside;
-      month-within = ap (λ (d : Date). outside (pos 0) (pos 99) (d .month)) (n .is) ∙ inside-pos 0 99 (n .m) (omega arith) (omega (arith, n .valid .month-high));
-      day-within = ap (λ (d : Date). outside (pos 0) (pos 99) (d .day)) (n .is) ∙ inside-pos 0 99 (n .d) (omega arith) (omega (arith, calendar.day-small (n .y) (n .m) (n .d) (n .valid)));
+      month-within = ap (λ (d : Date). outside (pos 0) (pos 99) (d .month)) (n .is) ∙ inside-pos 0 99 (n .m) (omega arith) (omega (arith, n .is-valid .month-high));
+      day-within = ap (λ (d : Date). outside (pos 0) (pos 99) (d .day)) (n .is) ∙ inside-pos 0 99 (n .d) (omega arith) (omega (arith, calendar.day-small (n .y) (n .m) (n .d) (n .is-valid)));
       hour-within = room-in 2 (c .hour-within) (omega arith);
       minute-within = room-in 2 (c .minute-within) (omega arith);
       second-within = room-in 2 (c .second-within) (omega arith);

@@ -11,10 +11,10 @@ use lib.ListN.{length, take, drop}
 use lib.Seq.{take-at, drop-at}
 use Rattle.refusal.specs.Outcome.{Outcome, mapValue, value, refused, refusedAt}
 use Rattle.numbers.specs.Range.{outside}
-use Rattle.numbers.proofs.Between.{within, inside-pos}
+use Rattle.numbers.proofs.Between.{natural-within, inside-pos}
 use Rattle.refusal.proofs.Outcomes.{clash, passes, same-value}
 use Rattle.calendar.specs.Range.{firstYear, lastYear}
-use Rattle.calendar.specs.Gregorian.{monthLength, date}
+use Rattle.calendar.specs.Gregorian.{monthLength, dateOf}
 use Rattle.calendar.specs.Answers.{ofDate}
 use Rattle.instant.specs.Instant.{fieldsOf, timeOfFields, instantAt}
 use Rattle.instant.specs.Answers.{badInstant, badTime, splitAnswer, joinAnswer}
@@ -88,7 +88,7 @@ accepted z label e = let p = passes (outside (pos 0) lastPosition z) 6 _ (sym e)
 position-read : (z : ℤ) (label : List ℕ) → positionLabel z ≡ value label → z ≡ pos (positionOf label)
 position-read z label e =
     let a = accepted z label e in
-    let r = within 0 lastPosition z (a .1) in
+    let r = natural-within 0 lastPosition z (a .1) in
     r .is ∙ ap pos (sym (position-back (natAbs z) (r .high)) ∙ ap positionOf (a .0))
 
 -- two positions with the same label are the same position
@@ -100,7 +100,7 @@ same-position z y label e f = position-read z label e ∙ sym (position-read y l
 -- the number of a field's digits is the field
 field-back : (count : ℕ) → (z : ℤ) → HasRoom count z → pos (number (digits (natAbs z) count)) ≡ z
 field-back count z e =
-    let w = within 0 (pos (10 ^ count - 1)) z e in
+    let w = natural-within 0 (pos (10 ^ count - 1)) z e in
     let l = w .high in
     let o : 0 ≤ count = omega arith in
     let p : 1 ≤ 10 ^ count = pow-le-pow-right {n = 10} (lit< tt) o in
@@ -205,7 +205,7 @@ join-year :
 unfolding joinAnswer ofDate
 join-year year month day hour minute second millisecond h e =
     later-refusal (outside (pos 1) (pos 12) month) (outside (pos 1) (monthLength year month) day) (badTime hour minute second millisecond)
-    (instantAt (date year month day) (timeOfFields hour minute second millisecond)) (rw h at e)
+    (instantAt (dateOf year month day) (timeOfFields hour minute second millisecond)) (rw h at e)
 
 -- the years of labels are in the range of years: reading never refuses with 1
 pub read-year : (label : List ℕ) → readAnswer label ≡ refused 1 → ⊥

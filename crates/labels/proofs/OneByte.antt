@@ -49,7 +49,7 @@ value-le s b h = go (eqb s 48) refl h
 -- what fits differs by its value, in the low bits where a digit stands, and nowhere at a mark
 pub record Fit (s b : ℕ) : Type 0 where
   pub gap-is : bitXor b s ≡ b - s
-  pub settled : bitAnd (bitXor b s) (maskOne s) ≡ 0
+  pub mask-clear : bitAnd (bitXor b s) (maskOne s) ≡ 0
 
 -- what is settled differs in the low bits at most, and fits if that is the value of a digit
 pub record Settled (s b : ℕ) : Type 0 where
@@ -57,8 +57,8 @@ pub record Settled (s b : ℕ) : Type 0 where
   pub fits-if : bitXor b s ≤ 9 → fitsOne s b ≡ true
 
 module _ (s b : ℕ) (hs : s ≤ 255) (hb : b ≤ 255) where
-  pub fit : fitsOne s b ≡ true → Fit s b
-  fit h = go (eqb s 48) refl h
+  pub when-fits : fitsOne s b ≡ true → Fit s b
+  when-fits h = go (eqb s 48) refl h
     where
       go : (d : Bool) → eqb s 48 ≡ d → cond d (isDigit b) (eqb b s) ≡ true → Fit s b
       go true d h =
@@ -68,14 +68,14 @@ module _ (s b : ℕ) (hs : s ≤ 255) (hb : b ≤ 255) where
           let g : bitXor b 48 ≡ b - 48 = digit-gap b ∙ ap (λ q. bitXor q 3 * 16 + b % 16) q ∙ omega (arith, r .0, r .1) in
           rw e record {
             gap-is = g;
-            settled = ap (λ g. bitAnd g 240) g ∙ high (b - 48) ∙ omega (arith, r .1);
+            mask-clear = ap (λ g. bitAnd g 240) g ∙ high (b - 48) ∙ omega (arith, r .1);
           }
       go false d h =
           let e = eqb-true b s h in
           let g : bitXor b s ≡ 0 = ap (λ b. bitXor b s) e ∙ xor-self s in
           record {
             gap-is = g ∙ omega arith;
-            settled = ap₂ bitAnd g (ap (λ d. cond d 240 255) d);
+            mask-clear = ap₂ bitAnd g (ap (λ d. cond d 240 255) d);
           }
 
   pub settle : bitAnd (bitXor b s) (maskOne s) ≡ 0 → Settled s b

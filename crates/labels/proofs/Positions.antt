@@ -15,7 +15,7 @@ use mir.Val.{SFits}
 use mir.Facts.{toZ-ofZ}
 use Rattle.refusal.specs.Outcome.{value, refused}
 use Rattle.numbers.specs.Range.{outside}
-use Rattle.numbers.proofs.Between.{within, read-high}
+use Rattle.numbers.proofs.Between.{natural-within, read-high}
 use Rattle.numbers.proofs.Machine.{read}
 use Rattle.labels.specs.Digits.{digits}
 use Rattle.labels.specs.Clock.{clockText}
@@ -40,7 +40,7 @@ module _ {z : ℤ} (f : SFits w64 z) where
     labelled = rw h (ap (λ z. value (positionText (natAbs z))) (toZ-ofZ f))
 
     pub in-range : natAbs (read z) ≤ natAbs lastPosition
-    in-range = read-high f (within 0 lastPosition z h)
+    in-range = read-high f (natural-within 0 lastPosition z h)
 
 -- ---- the clock
 

@@ -9,11 +9,11 @@ use lib.Dec.{eqb}
 use lib.ListN.{length, getD, take, replicate, length-replicate}
 use lib.Seq.{drop-cons, take-suc, take-length}
 use Rattle.refusal.proofs.Outcomes.{clash}
+use Rattle.numbers.proofs.Bools.{and-left}
 use Rattle.labels.specs.Digits.{number, numberFrom, numberAt, isDigit, fitsOne, fits}
 use Rattle.labels.specs.Words.{word, byteOf, partOf, above, readValues, pairOf, numberOf}
 use Rattle.labels.specs.declared.digits.Values.the-variants.{Read, Malformed}
 use Rattle.labels.proofs.Words.{AllLe, word-le, byte-at, part-length, part-at}
-use Rattle.labels.proofs.Decimal.{and-left}
 use Rattle.labels.proofs.Gaps.{values-le}
 
 -- ---- pairs of values

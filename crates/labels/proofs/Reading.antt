@@ -7,11 +7,11 @@ use native.Mathlib.Omega.{arith}
 use lib.ListN.{length, getD, take, drop, replicate, length-drop, length-replicate, drop-of-length-le}
 use lib.Seq.{take-all, drop-cons, length-take-le}
 use Rattle.refusal.specs.Outcome.{refused}
+use Rattle.numbers.proofs.Bools.{and-left, and-right}
 use Rattle.labels.specs.Digits.{digits, numberAt, fitsOne, fits}
 use Rattle.labels.specs.Rfc3339.{labelLength, decimals, dateShape, timeShape, readFields, readAnswer}
 use Rattle.labels.specs.Words.{partOf, readValues, pairOf, numberOf}
 use Rattle.labels.specs.Parts.{joined, readTime}
-use Rattle.labels.proofs.Decimal.{and-left, and-right}
 use Rattle.labels.proofs.Shapes.{uneven, fits-from, zeros}
 use Rattle.labels.proofs.Words.{part-length}
 use Rattle.labels.proofs.ReadValues.{ValuesRead, number-four, mark-number, part-number}

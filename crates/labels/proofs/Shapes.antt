@@ -7,10 +7,10 @@ use borrow.Author.Tests.{eqb-true}
 use lib.Dec.{eqb}
 use lib.ListN.{length, take, drop, replicate, take-append-drop}
 use lib.Seq.{drop-drop}
-use Rattle.numbers.proofs.Integers.{no-both}
+use Rattle.numbers.proofs.Bools.{no-both, and-left, and-right}
 use Rattle.labels.specs.Digits.{digits, number, isDigit, fitsOne, fits}
 use Rattle.labels.specs.Words.{partOf}
-use Rattle.labels.proofs.Decimal.{and-left, and-right, is-digit, allDigits, digits-number, length-digits}
+use Rattle.labels.proofs.Decimal.{is-digit, allDigits, digits-number, length-digits}
 
 and-no : (a : Bool) → a && false ≡ false
 and-no true = refl

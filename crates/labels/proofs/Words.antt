@@ -104,7 +104,7 @@ part-le limit at count text a = take-le count (drop at text) (drop-le limit at t
 -- n is the number of the bytes from i on
 pub record Made (l : List ℕ) (count n i : ℕ) : Type 0 where
   pub within : i ≤ count
-  pub made : n ≡ word (drop i l)
+  pub is-word : n ≡ word (drop i l)
   pub below : n < 256 ^ (count - i)
 
 pub none-made : (l : List ℕ) {count : ℕ} → length l ≡ count → Made l count 0 count
@@ -112,12 +112,12 @@ none-made l {count} e =
     let z : count - count ≡ 0 = omega arith in
     record {
       within = omega arith;
-      made = ap word (sym (ap (λ i. drop i l) (sym e) ∙ drop-length l));
+      is-word = ap word (sym (ap (λ i. drop i l) (sym e) ∙ drop-length l));
       below = omega (arith, ap (λ k. 256 ^ k) z ∙ pow-zero 256);
     }
 
 pub all-made : {l : List ℕ} {count n i : ℕ} → Made l count n i → i ≤ 0 → n ≡ word l
-all-made {l} {i = i} m h = let z : i ≡ 0 = omega arith in m .made ∙ ap (λ i. word (drop i l)) z
+all-made {l} {i = i} m h = let z : i ≡ 0 = omega arith in m .is-word ∙ ap (λ i. word (drop i l)) z
 
 pub room : {l : List ℕ} {count n i : ℕ} → Made l count n i → 1 ≤ i → count ≤ 8 → n < 72057594037927936
 room {count = count} {i = i} m low h =
@@ -133,6 +133,6 @@ more-made {l} {count} {i = i} m size low e h =
     let p : count - (i - 1) ≡ suc (count - i) = omega (arith, m .within) in
     record {
       within = omega (arith, m .within);
-      made = ap₂ (λ n b. n * 256 + b) (m .made) e ∙ sym (ap word d);
+      is-word = ap₂ (λ n b. n * 256 + b) (m .is-word) e ∙ sym (ap word d);
       below = omega (arith, m .below, ap (λ j. 256 ^ j) p ∙ pow-suc 256 (count - i));
     }

@@ -10,9 +10,10 @@ use borrow.Author.Tests.{ltb-false, le-ltb}
 use mir.Syntax.{Width, w32, w64}
 use mir.Val.{SFits, Fits, toZ}
 use mir.Facts.{toZ-ofZ, toZ-pos}
-use Rattle.numbers.specs.Range.{outside}
-use Rattle.numbers.proofs.Integers.{no-both, outside-no, not-outside, lt-add}
+use Rattle.numbers.specs.Range.{outside, Within}
+use Rattle.numbers.proofs.Integers.{outside-no, not-outside, lt-add}
 use Rattle.numbers.proofs.Machine.{read, pos-fits, cast-pos}
+use Rattle.numbers.proofs.Bools.{no-both}
 
 -- a number between two that fit
 pub fits-between : (w : Width) (first last z : ℤ) → SFits w first → SFits w last → outside first last z ≡ false → SFits w z
@@ -24,18 +25,12 @@ fits-between w first last z f g h = go first last z f g (outside-no first last z
     go (pos b) last (negsuc a) f g lo hi = no-both true refl lo
     go (negsuc b) last (negsuc a) f g lo hi = record { sfits = omega (arith, f .sfits, ltb-false b a lo) }
 
--- a natural number in first..last
-pub record Within (first last : ℕ) (z : ℤ) : Type 0 where
-  pub is : z ≡ pos (natAbs z)
-  pub low : first ≤ natAbs z
-  pub high : natAbs z ≤ last
-
-pub within : (first : ℕ) (last z : ℤ) → outside (pos first) last z ≡ false → Within first (natAbs last) z
-within first (pos last) (pos n) h =
+pub natural-within : (first : ℕ) (last z : ℤ) → outside (pos first) last z ≡ false → Within first (natAbs last) z
+natural-within first (pos last) (pos n) h =
     let t = outside-no (pos first) (pos last) (pos n) h in
     record { is = refl; low = ltb-false n first (t .0); high = ltb-false last n (t .1) }
-within first (negsuc last) (pos n) h = no-both true refl (outside-no (pos first) (negsuc last) (pos n) h .1)
-within first last (negsuc n) h = no-both true refl h
+natural-within first (negsuc last) (pos n) h = no-both true refl (outside-no (pos first) (negsuc last) (pos n) h .1)
+natural-within first last (negsuc n) h = no-both true refl h
 
 module _ {first last : ℕ} {z : ℤ} (f : SFits w64 z) (t : Within first last z) where
   pub read-high : natAbs (read z) ≤ last
@@ -49,16 +44,16 @@ module _ {first last : ℕ} {z : ℤ} (f : SFits w64 z) (t : Within first last z
 -- a number in 0..k as an unsigned one of 32 bits, and back
 module _ (k : ℕ) (h : k < 2 ^ 32) (z : ℤ) (e : outside (pos 0) (pos k) z ≡ false) where
   small-fits : SFits w64 z
-  small-fits = let w = within 0 (pos k) z e in let l = w .high in subst (SFits w64) (sym (w .is)) (pos-fits (omega arith))
+  small-fits = let w = natural-within 0 (pos k) z e in let l = w .high in subst (SFits w64) (sym (w .is)) (pos-fits (omega arith))
 
   pub abs-read : natAbs (read z) ≡ natAbs z
   abs-read = ap natAbs (toZ-ofZ small-fits)
 
   pub cast-small : T (nonNeg (read z)) × Fits w32 (natAbs (read z))
-  cast-small = let w = within 0 (pos k) z e in let l = w .high in cast-pos w32 (natAbs z) (omega arith) (toZ-ofZ small-fits ∙ w .is)
+  cast-small = let w = natural-within 0 (pos k) z e in let l = w .high in cast-pos w32 (natAbs z) (omega arith) (toZ-ofZ small-fits ∙ w .is)
 
   pub read-below : natAbs (read z) < k + 1
-  read-below = let w = within 0 (pos k) z e in let l = w .high in omega (arith, abs-read)
+  read-below = let w = natural-within 0 (pos k) z e in let l = w .high in omega (arith, abs-read)
 
 pub as-signed : {n : ℕ} → Fits w32 n → toZ w64 n ≡ pos n
 as-signed h = toZ-pos w64 (omega (arith, h .fits))

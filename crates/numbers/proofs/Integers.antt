@@ -1,7 +1,7 @@
 -- Whole numbers as a first number and a natural number more, and their order.
 use Prim.Native.Nat.{ℕ, suc, _+_, _-_, _≤_, _<_}
 use mathlib.Core.Path.{_≡_, refl, sym, ap, ap₂, _∙_}
-use mathlib.Core.Bool.{Bool, true, false, cond, _||_, true≢false}
+use mathlib.Core.Bool.{Bool, true, false, cond, _||_}
 use native.Mathlib.Omega.{arith}
 use native.Mathlib.Decide.{decLt}
 use lib.Dec.{ltb}
@@ -9,14 +9,7 @@ use lib.IntN.{ℤ, pos, negsuc, natAbs, _+ℤ_, _-ℤ_, subℕ, +ℤ-assoc, +ℤ
 use lib.Signed.{ltZ}
 use borrow.Author.Tests.{ltb-true, ltb-false, lt-ltb, le-ltb, eq-eqb, eqb-true}
 use Rattle.numbers.specs.Range.{outside, since, eqZ}
-
-pub no-both : {G : Type 0} (t : Bool) → t ≡ true → t ≡ false → G
-no-both t p q = absurd (true≢false (sym p ∙ q))
-
--- neither of two tests holds
-pub or-no : (a b : Bool) → (a || b) ≡ false → (a ≡ false) × (b ≡ false)
-or-no true b h = no-both true refl h
-or-no false b h = (refl, h)
+use Rattle.numbers.proofs.Bools.{no-both, or-no}
 
 -- a difference of natural numbers, by its sign
 pub on-sub : (P : ℤ → Type 0) (a b : ℕ) → (a < b → P (negsuc (b - suc a))) → (b ≤ a → P (pos (a - b))) → P (subℕ a b)

@@ -1,3 +1,4 @@
+pub mod Bools
 pub mod Integers
 pub mod Floor
 pub mod Machine

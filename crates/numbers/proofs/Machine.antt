@@ -12,7 +12,8 @@ use mir.Syntax.{Width, w64}
 use mir.Val.{SFits, Fits, bits, toZ, ofZ}
 use mir.Facts.{toZ-ofZ, toZ-pos}
 use Rattle.numbers.specs.Range.{outside, since}
-use Rattle.numbers.proofs.Integers.{no-both, on-sub, sub-pos, since-is, since-le, below-outside}
+use Rattle.numbers.proofs.Integers.{on-sub, sub-pos, since-is, since-le, below-outside}
+use Rattle.numbers.proofs.Bools.{no-both}
 
 -- a signed local holds the bits of z, and each reading goes through them
 abbrev pub read : ℤ → ℤ

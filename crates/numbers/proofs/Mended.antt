@@ -23,7 +23,7 @@ borrowed rest = cond (ltZ rest (pos 0)) (pos 1) (pos 0)
 -- the next number is in the same multiple of d, or begins the next one
 data Next (a d : ℕ) : Type 0 where
   same : suc a % d ≡ suc (a % d) → suc a / d ≡ a / d → Next a d
-  next : suc a % d ≡ 0 → suc (a % d) ≡ d → suc a / d ≡ suc (a / d) → Next a d
+  begins : suc a % d ≡ 0 → suc (a % d) ≡ d → suc a / d ≡ suc (a / d) → Next a d
 
 step : (a d : ℕ) → 0 < d → Next a d
 step a d h = go (decLt (suc (a % d)) d)
@@ -34,7 +34,7 @@ step a d h = go (decLt (suc (a % d)) d)
         let e = div-add-mod' a d in
         let m = mod-lt a h in
         let f : suc (a % d) ≡ d = omega arith in
-        next (suc-mod a d ∙ ap (λ n. n % d) f ∙ mod-self d) f (div-eq-of-lt-le {k = suc (a / d)} d (omega arith) (omega arith))
+        begins (suc-mod a d ∙ ap (λ n. n % d) f ∙ mod-self d) f (div-eq-of-lt-le {k = suc (a / d)} d (omega arith) (omega arith))
 
 -- -n, less what a remainder of -m borrows, where m is zero and where it is not
 none : (n : ℕ) {m : ℕ} → m ≡ 0 → negℤ (pos (suc n)) -ℤ borrowed (negℤ (pos m)) ≡ negsuc n
@@ -50,7 +50,7 @@ mended-quotient (negsuc a) d h = go (step a d h)
   where
     go : Next a d → negℤ (pos (suc a / d)) -ℤ borrowed (negℤ (pos (suc a % d))) ≡ negsuc (a / d)
     go (same r q) = one (suc a / d) (a % d) r ∙ ap negsuc q
-    go (next r f q) = ap (λ n. negℤ (pos n) -ℤ borrowed (negℤ (pos (suc a % d)))) q ∙ none (a / d) r
+    go (begins r f q) = ap (λ n. negℤ (pos n) -ℤ borrowed (negℤ (pos (suc a % d)))) q ∙ none (a / d) r
 
 pub mended-remainder : (z : ℤ) (d : ℕ) → 0 < d → remZ z (pos d) +ℤ pos d *ℤ borrowed (remZ z (pos d)) ≡ pos (floorRemainder z d)
 mended-remainder (pos a) d h = rw (le-ltb (a % d) 0 (omega arith)) (ap pos (omega arith))
@@ -60,7 +60,7 @@ mended-remainder (negsuc a) d h = go (step a d h)
     go (same r q) =
         let l = mod-lt (suc a) h in
         ap (λ m. negℤ (pos m) +ℤ pos d *ℤ borrowed (negℤ (pos m))) r ∙ sub-pos (d * 1) (suc (a % d)) (omega arith) ∙ ap pos (omega arith)
-    go (next r f q) = ap (λ m. negℤ (pos m) +ℤ pos d *ℤ borrowed (negℤ (pos m))) r ∙ ap pos (omega arith)
+    go (begins r f q) = ap (λ m. negℤ (pos m) +ℤ pos d *ℤ borrowed (negℤ (pos m))) r ∙ ap pos (omega arith)
 
 -- quotients and remainders are no larger than the number
 mag-neg : (n : ℕ) → mag (negℤ (pos n)) ≤ n
@@ -73,7 +73,7 @@ mag-quotient (negsuc a) d h = go (step a d h)
   where
     go : Next a d → mag (negℤ (pos (suc a / d))) ≤ a
     go (same r q) = omega (arith, mag-neg (suc a / d), div-le-self a d)
-    go (next r f q) = subst (λ n. mag (negℤ (pos n)) ≤ a) (sym q) (div-le-self a d)
+    go (begins r f q) = subst (λ n. mag (negℤ (pos n)) ≤ a) (sym q) (div-le-self a d)
 
 mag-floored : (z : ℤ) (d : ℕ) → mag (floorQuotient z d) ≤ mag z
 mag-floored (pos a) d = div-le-self a d

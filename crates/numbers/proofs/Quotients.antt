@@ -9,7 +9,7 @@ use lib.Signed.{ltZ}
 use borrow.Author.Tests.{ltb-false, le-ltb}
 use Rattle.numbers.specs.Floor.{floorQuotient, floorRemainder}
 use Rattle.numbers.proofs.Floor.{neg-add}
-use Rattle.numbers.proofs.Integers.{no-both}
+use Rattle.numbers.proofs.Bools.{no-both}
 
 div-monotone : (a b d : ℕ) → 0 < d → a ≤ b → a / d ≤ b / d
 div-monotone a b d h l = le-div-iff-mul-le h .1 (omega (arith, div-mul-le-self a d))

@@ -1,5 +1,6 @@
 -- Ranges of whole numbers, both ends included.
-use Prim.Native.Nat.{ℕ}
+use Prim.Native.Nat.{ℕ, _≤_}
+use mathlib.Core.Path.{_≡_}
 use mathlib.Core.Bool.{Bool, false, _||_}
 use lib.Dec.{eqb}
 use lib.IntN.{ℤ, pos, negsuc, natAbs, _-ℤ_}
@@ -19,3 +20,9 @@ eqZ (pos a) (pos b) = eqb a b
 eqZ (pos a) (negsuc b) = false
 eqZ (negsuc a) (pos b) = false
 eqZ (negsuc a) (negsuc b) = eqb a b
+
+-- a natural number in first..last
+pub record Within (first last : ℕ) (z : ℤ) : Type 0 where
+  pub is : z ≡ pos (natAbs z)
+  pub low : first ≤ natAbs z
+  pub high : natAbs z ≤ last

@@ -19,7 +19,7 @@ use Rattle.instant.specs.Answers.{firstBad, indexDaysAnswer}
 use Rattle.labels.specs.Written.{bytesWritten}
 use Rattle.constants.specs.Least.{Found, at, none, leastBelow}
 use Rattle.constants.specs.Limits.{outsideLimits, endOutside, boundOutside}
-use Rattle.constants.specs.Answers.{Accepted, difference, differenceAnswer, claimed, boundAnswer}
+use Rattle.constants.specs.Answers.{Acceptance, difference, differenceAnswer, claimed, boundAnswer}
 use Rattle.constants.proofs.Least.{finds-at}
 
 -- the bytes that are written are not more than there are
@@ -104,6 +104,6 @@ module _ (a b d m c k t : ℤ) where
   found-fits {end} fits same n e = below-fits fits (found-below (read end) n (sym same ∙ e))
 
   pub least-fits :
-      {bound : ℤ} → SFits w64 bound → {outcome : Outcome Accepted} → outcome ≡ boundAnswer a b d m c k t (read bound) →
+      {bound : ℤ} → SFits w64 bound → {outcome : Outcome Acceptance} → outcome ≡ boundAnswer a b d m c k t (read bound) →
       (number n : ℕ) → outcome ≡ refusedAt number n → n < 2 ^ 63
   least-fits {bound} fits same number n e = below-fits fits (least-below (read bound) number n (sym same ∙ e))

@@ -9,10 +9,10 @@ use lib.ListN.{length}
 use lib.Signed.{nonNeg}
 use Rattle.refusal.specs.Outcome.{Outcome, value, refused, refusedAt, mapValue}
 use Rattle.numbers.specs.Range.{outside}
-use Rattle.numbers.proofs.Integers.{or-no}
-use Rattle.numbers.proofs.Between.{within}
+use Rattle.numbers.proofs.Between.{natural-within}
+use Rattle.numbers.proofs.Bools.{or-no}
 use Rattle.calendar.specs.Range.{firstYear, lastYear, firstCount, lastCount}
-use Rattle.calendar.specs.Gregorian.{leapYear, monthLength, date, ValidDate}
+use Rattle.calendar.specs.Gregorian.{leapYear, monthLength, dateOf, ValidDate}
 use Rattle.calendar.specs.Count.{weekday, dayOfYear}
 use Rattle.calendar.specs.Answers.{daysAnswer, civilAnswer, weekdayAnswer, leapAnswer, lastDayAnswer, dayOfYearAnswer, addDaysAnswer, ofDate}
 use Rattle.calendar.specs.declared.Date.{Date}
@@ -45,7 +45,7 @@ told e = record { exactly = e }
 -- ---- dates
 
 of-date :
-    {A : Type 0} (f : Date → Outcome A) (year month day : ℤ) → Tells returnedDone (f (date year month day)) →
+    {A : Type 0} (f : Date → Outcome A) (year month day : ℤ) → Tells returnedDone (f (dateOf year month day)) →
     Tells returnedDone (ofDate year month day f)
 unfolding ofDate
 of-date f year month day t =
@@ -86,10 +86,10 @@ day-of-year-tells year month day =
     by-test returned (outside (pos 1) (pos 12) month) _ _ (λ _. told refl) (λ m.
     by-test returned (outside (pos 1) (monthLength year month) day) _ _ (λ _. told refl) (λ d. told (in-year (record { year-inside = y; month-inside = m; day-inside = d })))))
   where
-    in-year : ValidDate (date year month day) → nonNeg (dayOfYear (date year month day)) ≡ true
+    in-year : ValidDate (dateOf year month day) → nonNeg (dayOfYear (dateOf year month day)) ≡ true
     in-year v =
         ap nonNeg
-        (within 1 (cond (leapYear year) (pos 366) (pos 365)) (dayOfYear (date year month day)) (day-of-year-is-in-range (date year month day) v) .is)
+        (natural-within 1 (cond (leapYear year) (pos 366) (pos 365)) (dayOfYear (dateOf year month day)) (day-of-year-is-in-range (dateOf year month day) v) .is)
 
 pub add-days-tells : (year month day days : ℤ) → Tells returnedDone (addDaysAnswer year month day days)
 unfolding addDaysAnswer
@@ -152,7 +152,7 @@ read-instant-tells label =
 
 found-tells : (end : ℤ) (found : Found) → endOutside end ≡ false → Tells (returnedFound end) (value found)
 found-tells end (at n) h = told refl
-found-tells end none h = told (ap nonNeg (within 0 (pos lastEnd) end h .is))
+found-tells end none h = told (ap nonNeg (natural-within 0 (pos lastEnd) end h .is))
 
 pub difference-tells : (a b d m c k t end : ℤ) → Tells (returnedFound end) (differenceAnswer a b d m c k t end)
 unfolding differenceAnswer

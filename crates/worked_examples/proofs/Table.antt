@@ -7,10 +7,10 @@ use lib.IntN.{ℤ, pos, negsuc}
 use Rattle.refusal.specs.Outcome.{value, refused}
 use Rattle.numbers.specs.Range.{outside, since}
 use Rattle.calendar.specs.Range.{firstCount, lastCount}
-use Rattle.calendar.specs.Gregorian.{date}
+use Rattle.calendar.specs.Gregorian.{dateOf}
 use Rattle.calendar.specs.Count.{dateOfCount, weekday}
 use Rattle.calendar.specs.Answers.{civilAnswer, weekdayAnswer}
-use Rattle.calendar.specs.Closed.{cycle, leapDay, leapℕ, leaps, start, monthDays, before, count, public}
+use Rattle.calendar.specs.Closed.{cycle, leapDay, leapℕ, leaps, start, monthDays, before, dayNumber, public}
 use Rattle.calendar.proofs.Laws.{date-at}
 use Rattle.instant.specs.Instant.{dayOf}
 use Rattle.instant.specs.Answers.{dayAnswer}
@@ -22,7 +22,7 @@ use Rattle.constants.proofs.Laws.{found-early}
 
 -- day z is the date with the year baseYear + y
 on :
-    (z : ℤ) (y m d : ℕ) → T (leb 1 m) → T (leb m 12) → T (leb 1 d) → T (leb d (monthDays (leapDay y) m)) → count y m d ≡ cycle + since firstCount z →
+    (z : ℤ) (y m d : ℕ) → T (leb 1 m) → T (leb m 12) → T (leb 1 d) → T (leb d (monthDays (leapDay y) m)) → dayNumber y m d ≡ cycle + since firstCount z →
     outside firstCount lastCount z ≡ false → civilAnswer z ≡ value (public y m d)
 unfolding civilAnswer dateOfCount
 on z y m d month-low month-high day-low day-high e h =
@@ -32,44 +32,44 @@ on z y m d month-low month-high day-low day-high e h =
     (record { month-low = lit≤ month-low; month-high = lit≤ month-high; day-low = lit≤ day-low; day-high = lit≤ day-high })
     e)
 
-first-row : civilAnswer (negsuc 719527) ≡ value (date (pos 0) (pos 1) (pos 1))
-unfolding count start leaps leapDay leapℕ before monthDays
+first-row : civilAnswer (negsuc 719527) ≡ value (dateOf (pos 0) (pos 1) (pos 1))
+unfolding dayNumber start leaps leapDay leapℕ before monthDays
 first-row = on (negsuc 719527) 400 1 1 tt tt tt tt refl refl
 
-leap-day-0-row : civilAnswer (negsuc 719468) ≡ value (date (pos 0) (pos 2) (pos 29))
-unfolding count start leaps leapDay leapℕ before monthDays
+leap-day-0-row : civilAnswer (negsuc 719468) ≡ value (dateOf (pos 0) (pos 2) (pos 29))
+unfolding dayNumber start leaps leapDay leapℕ before monthDays
 leap-day-0-row = on (negsuc 719468) 400 2 29 tt tt tt tt refl refl
 
-after-leap-day-0-row : civilAnswer (negsuc 719467) ≡ value (date (pos 0) (pos 3) (pos 1))
-unfolding count start leaps leapDay leapℕ before monthDays
+after-leap-day-0-row : civilAnswer (negsuc 719467) ≡ value (dateOf (pos 0) (pos 3) (pos 1))
+unfolding dayNumber start leaps leapDay leapℕ before monthDays
 after-leap-day-0-row = on (negsuc 719467) 400 3 1 tt tt tt tt refl refl
 
-february-1900-row : civilAnswer (negsuc 25508) ≡ value (date (pos 1900) (pos 2) (pos 28))
-unfolding count start leaps leapDay leapℕ before monthDays
+february-1900-row : civilAnswer (negsuc 25508) ≡ value (dateOf (pos 1900) (pos 2) (pos 28))
+unfolding dayNumber start leaps leapDay leapℕ before monthDays
 february-1900-row = on (negsuc 25508) 2300 2 28 tt tt tt tt refl refl
 
-march-1900-row : civilAnswer (negsuc 25507) ≡ value (date (pos 1900) (pos 3) (pos 1))
-unfolding count start leaps leapDay leapℕ before monthDays
+march-1900-row : civilAnswer (negsuc 25507) ≡ value (dateOf (pos 1900) (pos 3) (pos 1))
+unfolding dayNumber start leaps leapDay leapℕ before monthDays
 march-1900-row = on (negsuc 25507) 2300 3 1 tt tt tt tt refl refl
 
-before-epoch-row : civilAnswer (negsuc 0) ≡ value (date (pos 1969) (pos 12) (pos 31))
-unfolding count start leaps leapDay leapℕ before monthDays
+before-epoch-row : civilAnswer (negsuc 0) ≡ value (dateOf (pos 1969) (pos 12) (pos 31))
+unfolding dayNumber start leaps leapDay leapℕ before monthDays
 before-epoch-row = on (negsuc 0) 2369 12 31 tt tt tt tt refl refl
 
-leap-day-2000-row : civilAnswer (pos 11016) ≡ value (date (pos 2000) (pos 2) (pos 29))
-unfolding count start leaps leapDay leapℕ before monthDays
+leap-day-2000-row : civilAnswer (pos 11016) ≡ value (dateOf (pos 2000) (pos 2) (pos 29))
+unfolding dayNumber start leaps leapDay leapℕ before monthDays
 leap-day-2000-row = on (pos 11016) 2400 2 29 tt tt tt tt refl refl
 
-february-2100-row : civilAnswer (pos 47540) ≡ value (date (pos 2100) (pos 2) (pos 28))
-unfolding count start leaps leapDay leapℕ before monthDays
+february-2100-row : civilAnswer (pos 47540) ≡ value (dateOf (pos 2100) (pos 2) (pos 28))
+unfolding dayNumber start leaps leapDay leapℕ before monthDays
 february-2100-row = on (pos 47540) 2500 2 28 tt tt tt tt refl refl
 
-march-2100-row : civilAnswer (pos 47541) ≡ value (date (pos 2100) (pos 3) (pos 1))
-unfolding count start leaps leapDay leapℕ before monthDays
+march-2100-row : civilAnswer (pos 47541) ≡ value (dateOf (pos 2100) (pos 3) (pos 1))
+unfolding dayNumber start leaps leapDay leapℕ before monthDays
 march-2100-row = on (pos 47541) 2500 3 1 tt tt tt tt refl refl
 
-last-row : civilAnswer (pos 2932896) ≡ value (date (pos 9999) (pos 12) (pos 31))
-unfolding count start leaps leapDay leapℕ before monthDays
+last-row : civilAnswer (pos 2932896) ≡ value (dateOf (pos 9999) (pos 12) (pos 31))
+unfolding dayNumber start leaps leapDay leapℕ before monthDays
 last-row = on (pos 2932896) 10399 12 31 tt tt tt tt refl refl
 
 -- each n up to the difference is asked
@@ -90,16 +90,16 @@ unfolding outsideLimits difference differs exactQuotient deviceQuotient leastBel
 month-row = found-early (pos 5) (pos 461) (pos 153) (pos 2141) (pos 197913) (pos 16) (pos 0) (pos 4294967295) refl 735 734 refl (lit≤ tt)
 
 pub record Table : Type 0 where
-  pub first : (civilAnswer (negsuc 719527) ≡ value (date (pos 0) (pos 1) (pos 1))) × (weekdayAnswer (negsuc 719527) ≡ value (pos 6))
-  pub leap-day-0 : civilAnswer (negsuc 719468) ≡ value (date (pos 0) (pos 2) (pos 29))
-  pub after-leap-day-0 : civilAnswer (negsuc 719467) ≡ value (date (pos 0) (pos 3) (pos 1))
-  pub february-1900 : civilAnswer (negsuc 25508) ≡ value (date (pos 1900) (pos 2) (pos 28))
-  pub march-1900 : civilAnswer (negsuc 25507) ≡ value (date (pos 1900) (pos 3) (pos 1))
-  pub before-epoch : (civilAnswer (negsuc 0) ≡ value (date (pos 1969) (pos 12) (pos 31))) × (weekdayAnswer (negsuc 0) ≡ value (pos 3))
-  pub leap-day-2000 : civilAnswer (pos 11016) ≡ value (date (pos 2000) (pos 2) (pos 29))
-  pub february-2100 : civilAnswer (pos 47540) ≡ value (date (pos 2100) (pos 2) (pos 28))
-  pub march-2100 : civilAnswer (pos 47541) ≡ value (date (pos 2100) (pos 3) (pos 1))
-  pub last : (civilAnswer (pos 2932896) ≡ value (date (pos 9999) (pos 12) (pos 31))) × (weekdayAnswer (pos 2932896) ≡ value (pos 5))
+  pub first : (civilAnswer (negsuc 719527) ≡ value (dateOf (pos 0) (pos 1) (pos 1))) × (weekdayAnswer (negsuc 719527) ≡ value (pos 6))
+  pub leap-day-0 : civilAnswer (negsuc 719468) ≡ value (dateOf (pos 0) (pos 2) (pos 29))
+  pub after-leap-day-0 : civilAnswer (negsuc 719467) ≡ value (dateOf (pos 0) (pos 3) (pos 1))
+  pub february-1900 : civilAnswer (negsuc 25508) ≡ value (dateOf (pos 1900) (pos 2) (pos 28))
+  pub march-1900 : civilAnswer (negsuc 25507) ≡ value (dateOf (pos 1900) (pos 3) (pos 1))
+  pub before-epoch : (civilAnswer (negsuc 0) ≡ value (dateOf (pos 1969) (pos 12) (pos 31))) × (weekdayAnswer (negsuc 0) ≡ value (pos 3))
+  pub leap-day-2000 : civilAnswer (pos 11016) ≡ value (dateOf (pos 2000) (pos 2) (pos 29))
+  pub february-2100 : civilAnswer (pos 47540) ≡ value (dateOf (pos 2100) (pos 2) (pos 28))
+  pub march-2100 : civilAnswer (pos 47541) ≡ value (dateOf (pos 2100) (pos 3) (pos 1))
+  pub last : (civilAnswer (pos 2932896) ≡ value (dateOf (pos 9999) (pos 12) (pos 31))) × (weekdayAnswer (pos 2932896) ≡ value (pos 5))
   pub day-before-epoch : dayAnswer (negsuc 86399999) ≡ value (negsuc 0)
   pub two-days-before-epoch : dayAnswer (negsuc 86400000) ≡ value (negsuc 1)
   -- a=1 b=0 d=10 m=26 c=0 k=8, t=0 and t=1; m=25; and a month step of source document 000

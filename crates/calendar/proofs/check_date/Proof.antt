@@ -1,7 +1,7 @@
 -- The month is accepted or refused by itself; then the day is tested against the month's length.
 use Rattle.calendar.specs.declared.Date.{Date}
 use Rattle.calendar.specs.Answers.{lastDayAnswer}
-use Rattle.calendar.specs.Gregorian.{date, ValidDate}
+use Rattle.calendar.specs.Gregorian.{dateOf, ValidDate}
 use Rattle.calendar.proofs.Dates.{natural, day-small, day-refused, day-accepted, date-accepted}
 use Rattle.calendar.proofs.Tests.{month-refused, of-read}
 use Rattle.numbers.proofs.Machine.{read, cast-pos}
@@ -54,18 +54,18 @@ returns c = let k = c .before in
     let f = start k .fits in
     (day-refused (year k) (month k) (day k) (len k) (accepted k) (sym (k .outside .ensures) ∙ c .if1 .taken) ∙ of-read (f .year) (f .month) (f .day) value, tt)
 
-valid : (c : tie.Else1) → let k = c .before in ValidDate (date (year k) (month k) (day k))
+valid : (c : tie.Else1) → let k = c .before in ValidDate (dateOf (year k) (month k) (day k))
 valid c = let k = c .before in day-accepted (year k) (month k) (day k) (len k) (accepted k) (sym (k .outside .ensures) ∙ c .if1 .left)
 
 years-from-base-requires : tie.Need-years-from-base-requires
 years-from-base-requires c κs = valid c .year-inside
 
 cast-t11 : tie.Need-cast-t11
-cast-t11 c = let n = natural _ (valid (c .before)) in cast-pos w32 (n .m) (omega (arith, n .valid .month-high)) (ap (λ (d : Date). d .month) (n .is))
+cast-t11 c = let n = natural _ (valid (c .before)) in cast-pos w32 (n .m) (omega (arith, n .is-valid .month-high)) (ap (λ (d : Date). d .month) (n .is))
 
 cast-t12 : tie.Need-cast-t12
 cast-t12 c = let n = natural _ (valid (c .before)) in
-    cast-pos w32 (n .d) (omega (arith, day-small (n .y) (n .m) (n .d) (n .valid))) (ap (λ (d : Date). d .day) (n .is))
+    cast-pos w32 (n .d) (omega (arith, day-small (n .y) (n .m) (n .d) (n .is-valid))) (ap (λ (d : Date). d .day) (n .is))
 
 enum-known-r : tie.Need-enum-known-r
 enum-known-r c = search needs

@@ -24,10 +24,10 @@ in-range : (c : tie.After-known-told) → let g = c .before .y .given .0 in InRa
 in-range c = subst CheckedInRange (c .before .y .given .1) (c .before .before .before .check-date .ensures .1)
 
 days-before-month-requires : tie.Need-days-before-month-requires
-days-before-month-requires c κs = let v = in-range c .valid in (v .month-low, v .month-high)
+days-before-month-requires c κs = let v = in-range c .is-valid in (v .month-low, v .month-high)
 
 add-t11 : tie.Need-add-t11
-add-t11 c = record { fits = omega (arith, c .days-before-month .ensures .1, day-small _ _ _ (in-range (c .before) .valid)) }
+add-t11 c = record { fits = omega (arith, c .days-before-month .ensures .1, day-small _ _ _ (in-range (c .before) .is-valid)) }
 
 cast-t12 : tie.Need-cast-t12
 cast-t12 c = search needs
@@ -41,7 +41,7 @@ returns c =
     let k = c .before .before .before .before in
     let f = k .before .fits in
     let g = c .before .before .y .given in
-    let v = in-range (c .before) .valid in
+    let v = in-range (c .before) .is-valid in
     let l = day-small _ _ _ v in
     ap value
     (toZ-pos w64 (omega (arith, c .days-before-month .ensures .1)) ∙ ap (λ b. pos (b + g .0 .1 .1 .0)) (c .days-before-month .ensures .0)

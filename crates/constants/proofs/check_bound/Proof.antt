@@ -33,13 +33,13 @@ returns : tie.Need-returns
 returns c = claim-refused _ _ _ _ _ _ _ _ (rw (c .enum-told .given .1) at (test-tells (c .before .before)))
 
 least-difference-requires : tie.Need-least-difference-requires
-least-difference-requires c κs = let p = inside (c .before) in (p .allowed, omega (arith, p .end-le))
+least-difference-requires c κs = let p = inside (c .before) in (p .limits-kept, omega (arith, p .end-le))
 
 returns-2 : tie.Need-returns-2
 returns-2 c = claim-below (inside (c .before .before .before)) (c .before .least-difference .ensures) (c .if1 .taken)
 
 differ-requires : tie.Need-differ-requires
-differ-requires c κs = let p = inside (c .before .before .before) in (p .allowed, p .end-le)
+differ-requires c κs = let p = inside (c .before .before .before) in (p .limits-kept, p .end-le)
 
 returns-3 : tie.Need-returns-3
 returns-3 c =

@@ -32,7 +32,7 @@ returns : tie.Need-returns
 returns c = search-refused _ _ _ _ _ _ _ _ (rw (c .enum-told .given .1) at (test-tells (c .before .before)))
 
 least-difference-requires : tie.Need-least-difference-requires
-least-difference-requires c κs = let p = inside (c .before) in (p .allowed, omega (arith, p .end-le))
+least-difference-requires c κs = let p = inside (c .before) in (p .limits-kept, omega (arith, p .end-le))
 
 returns-2 : tie.Need-returns-2
 returns-2 c = search-at (inside (c .before .before .before)) (c .before .least-difference .ensures) (c .if1 .taken)

@@ -1,6 +1,6 @@
 use Rattle.calendar.proofs.Conversion.{marchYear, marchDay, new-year-le, year-fits, year-adds, month-subtracts, date-made}
 use Rattle.calendar.specs.Closed.{baseYear, newYear}
-use Rattle.calendar.specs.Gregorian.{date}
+use Rattle.calendar.specs.Gregorian.{dateOf}
 use Rattle.numbers.proofs.Machine.{read, pos-fits}
 use lib.IntN.{_+ℤ_}
 use Prim.Native.Nat.{_+_, _-_, _*_, _/_}
@@ -82,7 +82,7 @@ returns : tie.Need-returns
 returns c =
     let n = c .before .args .n in
     let k = marchDay n in
-    ap (λ s. date (read (toZ w64 (marchYear n + newYear k) +ℤ baseYear)) (toZ w64 ((5 * k + 461) / 153 - 12 * newYear k)) (toZ w64 (k + 1 - s)))
+    ap (λ s. dateOf (read (toZ w64 (marchYear n + newYear k) +ℤ baseYear)) (toZ w64 ((5 * k + 461) / 153 - 12 * newYear k)) (toZ w64 (k + 1 - s)))
     (c .days-from-march .ensures)
     ∙ date-made n (c .before .pre)
 

@@ -3,10 +3,10 @@ use mathlib.Core.Bool.{Bool, false, _||_}
 use mathlib.Core.Path.{_≡_, sym, ap₂, _∙_}
 use lib.IntN.{pos, natAbs}
 use mir.Facts.{toZ-ofZ}
-use Rattle.numbers.specs.Range.{outside}
-use Rattle.numbers.proofs.Between.{Within, cast-within}
-use Rattle.constants.specs.Limits.{outsideLimits}
-use Rattle.constants.proofs.Signed.{AllWithin, constants-in, end-in, all-passed}
+use Rattle.numbers.specs.Range.{outside, Within}
+use Rattle.numbers.proofs.Between.{cast-within}
+use Rattle.constants.specs.Limits.{outsideLimits, AllWithin}
+use Rattle.constants.proofs.Signed.{constants-in, end-in, all-passed}
 use Rattle.constants.proofs.limits.test_limits.Statement.{statement}
 use Rattle.constants.proofs.limits.test_limits.Tie as tie
 

@@ -1,5 +1,5 @@
 -- Fields that pass the tests are small natural numbers.
-use Rattle.instant.proofs.Times.{Time, natural, timeℕ, time-is}
+use Rattle.instant.proofs.Times.{NaturalTime, natural, timeℕ, time-is}
 use Rattle.instant.specs.Answers.{badTime}
 use Rattle.instant.specs.Checked.{timeAnswer}
 use Rattle.instant.specs.Units.{perSecond, perMinute, perHour}
@@ -78,7 +78,7 @@ inside c = let d = c .before .before in
     let a = b .before .before in
     rw (hour-inside a, minute-inside b, second-inside d, answered (pos 0) (pos (perSecond - 1)) (start c .fits .millisecond) (c .before .outside4 .ensures) (c .if4 .left))
 
-time : (c : tie.Else4) → Time (start c .args .hour) (start c .args .minute) (start c .args .second) (start c .args .millisecond)
+time : (c : tie.Else4) → NaturalTime (start c .args .hour) (start c .args .minute) (start c .args .second) (start c .args .millisecond)
 time c = natural (start c .args .hour) (start c .args .minute) (start c .args .second) (start c .args .millisecond) (inside c)
 
 cast-time-of-fields : tie.Need-cast-time-of-fields

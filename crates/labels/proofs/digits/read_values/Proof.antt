@@ -1,5 +1,5 @@
 use native.Mathlib.Omega.{arith}
-use Rattle.labels.proofs.Values.{compared, unsettled, gaps-small, no-digits, all-digits}
+use Rattle.labels.proofs.Values.{compare, unsettled, gaps-small, no-digits, all-digits}
 use Rattle.labels.proofs.digits.read_values.Statement.{statement}
 use Rattle.labels.proofs.digits.read_values.Tie as tie
 
@@ -15,22 +15,22 @@ mask-of-requires c κs = c .before .before .before .before .pre .0
 returns : tie.Need-returns
 returns c =
     let s = c .before .before .before .before .before .before in
-    unsettled (compared (s .args .shape .now) (s .args .text .now) (s .args .at) (s .pre) (c .before .before .before .before .before .shared-slice-known .given) (c .before .before .before .before .shared-slice-known2 .given) (c .before .before .before .word-at .ensures) (c .before .before .word-at2 .ensures) (c .before .mask-of .ensures)) (c .if1 .taken)
+    unsettled (compare (s .args .shape .now) (s .args .text .now) (s .args .at) (s .pre) (c .before .before .before .before .before .shared-slice-known .given) (c .before .before .before .before .shared-slice-known2 .given) (c .before .before .before .word-at .ensures) (c .before .before .word-at2 .ensures) (c .before .mask-of .ensures)) (c .if1 .taken)
 
 add-if2 : tie.Need-add-if2
 add-if2 c =
     let s = c .before .before .before .before .before .before in
-    omega (arith, gaps-small (compared (s .args .shape .now) (s .args .text .now) (s .args .at) (s .pre) (c .before .before .before .before .before .shared-slice-known .given) (c .before .before .before .before .shared-slice-known2 .given) (c .before .before .before .word-at .ensures) (c .before .before .word-at2 .ensures) (c .before .mask-of .ensures)) (c .if1 .left))
+    omega (arith, gaps-small (compare (s .args .shape .now) (s .args .text .now) (s .args .at) (s .pre) (c .before .before .before .before .before .shared-slice-known .given) (c .before .before .before .before .shared-slice-known2 .given) (c .before .before .before .word-at .ensures) (c .before .before .word-at2 .ensures) (c .before .mask-of .ensures)) (c .if1 .left))
 
 returns-2 : tie.Need-returns-2
 returns-2 c =
     let s = c .before .before .before .before .before .before .before in
-    no-digits (compared (s .args .shape .now) (s .args .text .now) (s .args .at) (s .pre) (c .before .before .before .before .before .before .shared-slice-known .given) (c .before .before .before .before .before .shared-slice-known2 .given) (c .before .before .before .before .word-at .ensures) (c .before .before .before .word-at2 .ensures) (c .before .before .mask-of .ensures)) (c .if2 .taken)
+    no-digits (compare (s .args .shape .now) (s .args .text .now) (s .args .at) (s .pre) (c .before .before .before .before .before .before .shared-slice-known .given) (c .before .before .before .before .before .shared-slice-known2 .given) (c .before .before .before .before .word-at .ensures) (c .before .before .before .word-at2 .ensures) (c .before .before .mask-of .ensures)) (c .if2 .taken)
 
 returns-3 : tie.Need-returns-3
 returns-3 c =
     let s = c .before .before .before .before .before .before .before in
-    all-digits (compared (s .args .shape .now) (s .args .text .now) (s .args .at) (s .pre) (c .before .before .before .before .before .before .shared-slice-known .given) (c .before .before .before .before .before .shared-slice-known2 .given) (c .before .before .before .before .word-at .ensures) (c .before .before .before .word-at2 .ensures) (c .before .before .mask-of .ensures)) (c .before .if1 .left) (c .if2 .left)
+    all-digits (compare (s .args .shape .now) (s .args .text .now) (s .args .at) (s .pre) (c .before .before .before .before .before .before .shared-slice-known .given) (c .before .before .before .before .before .shared-slice-known2 .given) (c .before .before .before .before .word-at .ensures) (c .before .before .before .word-at2 .ensures) (c .before .before .mask-of .ensures)) (c .before .if1 .left) (c .if2 .left)
 
 pub read-values-spec : {M : Type 1} → statement M
 read-values-spec =

@@ -4,7 +4,7 @@ use native.Mathlib.Omega.{arith}
 use borrow.Author.Tests.{eq-eqb, ne-eqb}
 use lib.ListN.{getD}
 use lib.Seq.{length-take-le}
-use Rattle.numbers.proofs.Integers.{no-both}
+use Rattle.numbers.proofs.Bools.{no-both}
 use Rattle.labels.specs.Words.{partOf}
 use Rattle.labels.specs.Parts.{joinedClock}
 use Rattle.labels.proofs.ReadValues.{values-read, values-malformed}

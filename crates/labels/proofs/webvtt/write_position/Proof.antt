@@ -1,6 +1,6 @@
 use native.Mathlib.Omega.{arith}
 use lib.IntN.{pos, natAbs}
-use Rattle.numbers.proofs.Between.{within, cast-within}
+use Rattle.numbers.proofs.Between.{natural-within, cast-within}
 use Rattle.numbers.proofs.Machine.{read, answered}
 use Rattle.labels.specs.Webvtt.{lastPosition, positionText}
 use Rattle.labels.proofs.Writing.{renamed, nothing-written, no-room, all-written}
@@ -21,7 +21,7 @@ cast-n : tie.Need-cast-n
 cast-n c =
     let s = c .before .before .before in
     let h = answered (pos 0) lastPosition (s .fits .position) (c .before .outside .ensures) (c .if1 .left) in
-    cast-within (s .fits .position) (within 0 lastPosition (s .args .position) h)
+    cast-within (s .fits .position) (natural-within 0 lastPosition (s .args .position) h)
 
 cast-hours : tie.Need-cast-hours
 cast-hours c =

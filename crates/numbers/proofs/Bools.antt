@@ -1,0 +1,21 @@
+-- Tests that are both made, taken apart.
+use mathlib.Core.Path.{_≡_, refl, sym, _∙_}
+use mathlib.Core.Bool.{Bool, true, false, _&&_, _||_, true≢false}
+
+-- a test has one answer
+pub no-both : {G : Type 0} (t : Bool) → t ≡ true → t ≡ false → G
+no-both t p q = absurd (true≢false (sym p ∙ q))
+
+-- neither of two tests holds
+pub or-no : (a b : Bool) → (a || b) ≡ false → (a ≡ false) × (b ≡ false)
+or-no true b h = no-both true refl h
+or-no false b h = (refl, h)
+
+-- both hold
+pub and-left : (a b : Bool) → a && b ≡ true → a ≡ true
+and-left true b h = refl
+and-left false b h = h
+
+pub and-right : (a b : Bool) → a && b ≡ true → b ≡ true
+and-right true b h = h
+and-right false b h = no-both false h refl
