@@ -13,10 +13,11 @@ pub data Cell : Type 0 where
   pair : ℕ → Cell
   mark : ℕ → Cell
 
-abbrev pub Pairs : List Cell → Type 0
-Pairs [] = Unit {0}
-Pairs (pair n ∷ cs) = (n < 100) × Pairs cs
-Pairs (mark x ∷ cs) = Pairs cs
+-- each number of two digits is below 100
+abbrev pub PairsBelow : List Cell → Type 0
+PairsBelow [] = Unit {0}
+PairsBelow (pair n ∷ cs) = (n < 100) × PairsBelow cs
+PairsBelow (mark x ∷ cs) = PairsBelow cs
 
 -- the numbers, each in its place
 abbrev pub placed : List Cell → ℕ
@@ -46,7 +47,7 @@ text [] = []
 text (pair n ∷ cs) = digits n 2 ++ text cs
 text (mark x ∷ cs) = x ∷ text cs
 
-pub tens-are : (cs : List Cell) → Pairs cs → bitAnd (placed cs * 103 / 1024) (lanes cs) ≡ tens cs
+tens-are : (cs : List Cell) → PairsBelow cs → bitAnd (placed cs * 103 / 1024) (lanes cs) ≡ tens cs
 tens-are [] p = refl
 tens-are (pair n ∷ cs) p =
     let h = p .0 in
@@ -68,7 +69,7 @@ tens-are (mark x ∷ cs) p =
     ∙ ap₂ (λ a b. a * 256 + b) (tens-are cs p) (and-zero-r (y % 1024 / 4))
     ∙ omega arith
 
-digits-are : (cs : List Cell) → Pairs cs → word (text cs) + 2559 * tens cs ≡ 256 * placed cs + zeroed cs
+digits-are : (cs : List Cell) → PairsBelow cs → word (text cs) + 2559 * tens cs ≡ 256 * placed cs + zeroed cs
 digits-are [] p = refl
 digits-are (pair n ∷ cs) p =
     let h = p .0 in
@@ -82,8 +83,8 @@ tens-below (pair n ∷ cs) = let h = tens-below cs in omega arith
 tens-below (mark x ∷ cs) = let h = tens-below cs in omega arith
 
 -- what the code computes, from the numbers in their places and their tens
-module _ (cs : List Cell) (h : Pairs cs) {p : ℕ} (is : p ≡ placed cs) where
-  pub tens-of : bitAnd (p * 103 / 1024) (lanes cs) ≡ tens cs
+module _ (cs : List Cell) (h : PairsBelow cs) {p : ℕ} (is : p ≡ placed cs) where
+  tens-of : bitAnd (p * 103 / 1024) (lanes cs) ≡ tens cs
   tens-of = ap (λ p. bitAnd (p * 103 / 1024) (lanes cs)) is ∙ tens-are cs h
 
   pub tens-small : 2559 * bitAnd (p * 103 / 1024) (lanes cs) ≤ 256 * p

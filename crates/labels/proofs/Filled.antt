@@ -17,7 +17,7 @@ unfolding filled
 filled-nothing at buffer = refl
 
 -- a piece behind a piece
-pub filled-more : {k : ℕ} (at : ℕ) (a b buffer : List ℕ) → at + length a ≡ k → filled k b (filled at a buffer) ≡ filled at (a ++ b) buffer
+filled-more : {k : ℕ} (at : ℕ) (a b buffer : List ℕ) → at + length a ≡ k → filled k b (filled at a buffer) ≡ filled at (a ++ b) buffer
 unfolding filled
 filled-more at a b buffer e = ap (λ k. sets (sets buffer at a) k b) (sym e) ∙ go at a buffer
   where

@@ -1,11 +1,11 @@
 -- The fields of an instant have room in its label, and what the code writes of them is the label.
 use Prim.Native.Nat.{ℕ, _+_, _-_, _≤_, _<_, _^_}
 use mathlib.Core.Path.{_≡_, refl, sym, ap, _∙_}
+use mathlib.Core.Bool.{false}
 use mathlib.Core.List.{List, [], _∷_, _++_}
 use native.Mathlib.Omega.{arith}
 use lib.Dec.{T, lit<}
 use lib.IntN.{ℤ, pos, natAbs}
-use lib.ListN.{length}
 use lib.Signed.{nonNeg}
 use mir.Syntax.{w32}
 use mir.Val.{Fits}
@@ -13,6 +13,7 @@ use Rattle.refusal.specs.Outcome.{value}
 use Rattle.numbers.specs.Range.{outside, Within}
 use Rattle.numbers.proofs.Machine.{read}
 use Rattle.numbers.proofs.Between.{inside-pos, abs-read, cast-small, read-below}
+use Rattle.calendar.specs.Range.{firstYear, lastYear}
 use Rattle.calendar.specs.Gregorian.{dateOf}
 use Rattle.calendar.specs.Answers.{daysAnswer}
 use Rattle.calendar.specs.declared.Date.{Date}
@@ -25,12 +26,12 @@ use Rattle.instant.proofs.Times as times
 use Rattle.instant.proofs.Joined.{join-accepted}
 use Rattle.instant.proofs.Laws.{split-join}
 use Rattle.labels.specs.Digits.{digits}
-use Rattle.labels.specs.Clock.{clockText}
-use Rattle.labels.specs.Rfc3339.{labelLength, decimals, numbersText, labelText}
+use Rattle.labels.specs.Clock.{colon, clockText}
+use Rattle.labels.specs.Rfc3339.{dash, letterT, letterZ, labelLength, decimals, numbersText, labelText}
 use Rattle.labels.specs.Words.{word, bytesOf}
 use Rattle.labels.specs.Filled.{filled}
 use Rattle.labels.specs.Parts.{HasRoom, Narrow, NarrowFields}
-use Rattle.labels.proofs.Spelling.{four-stored, pairs-stored}
+use Rattle.labels.proofs.DigitWords.{four-stored, pairs-stored}
 use Rattle.labels.proofs.Filled.{filled-then}
 
 -- ---- fields that make an instant
@@ -38,7 +39,11 @@ use Rattle.labels.proofs.Filled.{filled-then}
 room-in : {k : ℕ} (count : ℕ) {z : ℤ} → Within 0 k z → k ≤ 10 ^ count - 1 → HasRoom count z
 room-in count {z} w h = let s = w .high in ap (outside (pos 0) (pos (10 ^ count - 1))) (w .is) ∙ inside-pos 0 (10 ^ count - 1) (natAbs z) (omega arith) (omega arith)
 
-pub joined-narrow :
+-- a year of the range has four digits
+year-room : (year : ℤ) → outside firstYear lastYear year ≡ false → HasRoom 4 year
+year-room year h = h
+
+joined-narrow :
     (year month day hour minute second fraction instant : ℤ) → joinAnswer year month day hour minute second fraction ≡ value instant →
     NarrowFields (record { year = year; month = month; day = day; hour = hour; minute = minute; second = second; millisecond = fraction })
 unfolding daysAnswer
@@ -48,7 +53,7 @@ joined-narrow year month day hour minute second fraction instant e =
     let n = calendar.natural (dateOf year month day) v in
     let c = times.natural hour minute second fraction (a .not-bad) in
     record {
-      year-within = v .year-inside;
+      year-within = year-room year (v .year-inside);
       month-within = ap (λ (d : Date). outside (pos 0) (pos 99) (d .month)) (n .is) ∙ inside-pos 0 99 (n .m) (omega arith) (omega (arith, n .is-valid .month-high));
       day-within = ap (λ (d : Date). outside (pos 0) (pos 99) (d .day)) (n .is) ∙ inside-pos 0 99 (n .d) (omega arith) (omega (arith, calendar.day-small (n .y) (n .m) (n .d) (n .is-valid)));
       hour-within = room-in 2 (c .hour-within) (omega arith);
@@ -66,10 +71,10 @@ module _ (count : ℕ) (few : 10 ^ count - 1 < 2 ^ 32) (z : ℤ) (h : HasRoom co
   pub room-cast : T (nonNeg (read z)) × Fits w32 (natAbs (read z))
   room-cast = cast-small (10 ^ count - 1) few z h
 
-  pub room-below : natAbs (read z) < 10 ^ count - 1 + 1
+  room-below : natAbs (read z) < 10 ^ count - 1 + 1
   room-below = read-below (10 ^ count - 1) few z h
 
-  pub room-abs : natAbs (read z) ≡ natAbs z
+  room-abs : natAbs (read z) ≡ natAbs z
   room-abs = abs-read (10 ^ count - 1) few z h
 
 module _ (f : Fields) (n : NarrowFields f) where
@@ -102,25 +107,20 @@ module _ (f : Fields) (n : NarrowFields f) where
 
 -- ---- the label from its pieces
 
--- a label has as many bytes as labels have
-pub label-length : (f : Fields) → length (labelText f) ≡ labelLength
-unfolding numbersText
-label-length f = refl
-
 pub label-filled :
     (year month day hour minute second fraction : ℕ) → Narrow year month day hour minute second fraction → (before : List ℕ) {one two three four : List ℕ} {y t : ℕ} →
-    y ≡ word (digits year 4) → one ≡ filled 0 (bytesOf 4 y ++ 45 ∷ []) before →
-    t ≡ word (digits month 2 ++ 45 ∷ digits day 2 ++ 84 ∷ digits hour 2) → two ≡ filled 5 (bytesOf 8 t ++ 58 ∷ []) one →
-    three ≡ filled 14 (clockText decimals minute second fraction) two → four ≡ filled (labelLength - 1) (90 ∷ []) three →
+    y ≡ word (digits year 4) → one ≡ filled 0 (bytesOf 4 y ++ dash ∷ []) before →
+    t ≡ word (digits month 2 ++ dash ∷ digits day 2 ++ letterT ∷ digits hour 2) → two ≡ filled 5 (bytesOf 8 t ++ colon ∷ []) one →
+    three ≡ filled 14 (clockText decimals minute second fraction) two → four ≡ filled (labelLength - 1) (letterZ ∷ []) three →
     four ≡ filled 0 (numbersText year month day hour minute second fraction) before
 unfolding numbersText
 label-filled year month day hour minute second fraction n before {one} {two} y e t g h k =
     let clock = clockText decimals minute second fraction in
-    let a = digits year 4 ++ 45 ∷ [] in
-    let b = (digits month 2 ++ 45 ∷ digits day 2 ++ 84 ∷ digits hour 2) ++ 58 ∷ [] in
-    let e′ : one ≡ filled 0 a before = e ∙ ap (λ l. filled 0 (l ++ 45 ∷ []) before) (four-stored year (n .year-below) y) in
+    let a = digits year 4 ++ dash ∷ [] in
+    let b = (digits month 2 ++ dash ∷ digits day 2 ++ letterT ∷ digits hour 2) ++ colon ∷ [] in
+    let e′ : one ≡ filled 0 a before = e ∙ ap (λ l. filled 0 (l ++ dash ∷ []) before) (four-stored year (n .year-below) y) in
     let g′ : two ≡ filled 5 b one =
-    g ∙ ap (λ l. filled 5 (l ++ 58 ∷ []) one) (pairs-stored month 45 day 84 hour (n .month-below) (n .day-below) (n .hour-below) (omega arith) (omega arith) t) in
+    g ∙ ap (λ l. filled 5 (l ++ colon ∷ []) one) (pairs-stored month dash day letterT hour (n .month-below) (n .day-below) (n .hour-below) (omega arith) (omega arith) t) in
     let ab = filled-then 0 a b before e′ refl g′ in
     let abc = filled-then 0 (a ++ b) clock before ab refl h in
-    filled-then 0 ((a ++ b) ++ clock) (90 ∷ []) before abc refl k
+    filled-then 0 ((a ++ b) ++ clock) (letterZ ∷ []) before abc refl k

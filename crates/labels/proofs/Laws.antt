@@ -1,16 +1,18 @@
--- What the labels are good for.
+-- The labels' round trips, lengths and refusals.
 use Prim.Native.Nat.{ℕ, _+_, _-_, _*_, _/_, _%_, _^_, _≤_, _<_}
 use mathlib.Core.Path.{_≡_, refl, sym, ap, ap₂, _∙_}
+use mathlib.Core.Logic.{_↔_}
 use mathlib.Core.Bool.{Bool, true, false, cond}
 use mathlib.Core.List.{List, _∷_, _++_}
-use native.Mathlib.Nat.{div-add-mod', pow-le-pow-right}
+use native.Mathlib.Nat.{div-add-mod', div-div-eq-div-mul, pow-le-pow-right}
 use native.Mathlib.Omega.{arith}
 use lib.Dec.{ltb, lit<}
 use lib.IntN.{ℤ, pos, natAbs}
-use lib.ListN.{length, take, drop}
+use lib.ListN.{length, getD, take, drop}
 use lib.Seq.{take-at, drop-at}
 use Rattle.refusal.specs.Outcome.{Outcome, mapValue, value, refused, refusedAt}
 use Rattle.numbers.specs.Range.{outside}
+use Rattle.numbers.proofs.Bools.{no-both}
 use Rattle.numbers.proofs.Between.{natural-within, inside-pos}
 use Rattle.refusal.proofs.Outcomes.{clash, passes, same-value}
 use Rattle.calendar.specs.Range.{firstYear, lastYear}
@@ -20,16 +22,17 @@ use Rattle.instant.specs.Instant.{fieldsOf, timeOfFields, instantAt}
 use Rattle.instant.specs.Answers.{badInstant, badTime, splitAnswer, joinAnswer}
 use Rattle.instant.specs.declared.Fields.{Fields}
 use Rattle.instant.proofs.Laws.{split-join, join-split}
+use Rattle.labels.specs.Clock.{colon}
 use Rattle.labels.specs.Digits.{digits, number, numberAt, fits}
-use Rattle.labels.specs.Rfc3339.{firstLabelYear, lastLabelYear, labelLength, decimals, dateText, timeText, numbersText, dateShape, timeShape, labelText, instantLabel, readFields, readAnswer}
+use Rattle.labels.specs.Rfc3339.{labelLength, decimals, dateText, timeText, numbersText, dateShape, timeShape, labelText, instantLabel, readFields, readAnswer}
 use Rattle.labels.specs.Parts.{HasRoom, NarrowFields}
 use Rattle.labels.specs.Webvtt.{lastPosition, perHour, perMinute, perSecond, hourDigits, clockOf, positionText, positionLabel}
 use Rattle.labels.proofs.Decimal.{number-digits, number-below, length-digits}
+use Rattle.labels.proofs.DigitWords.{place-100, place-1000}
 use Rattle.labels.proofs.Positions.{by-hours, length-position}
 use Rattle.labels.proofs.Shapes.{fits-both}
 use Rattle.labels.proofs.Texts.{date-back, time-back, date-fits, time-fits}
 use Rattle.labels.proofs.Instants.{fields-narrow}
-use Rattle.labels.proofs.Instants as instants
 
 -- ---- positions
 
@@ -44,6 +47,13 @@ position-length n = length-position n ∙ go (ltb (n / perHour) 100) (ltb (n / p
     go false true c = refl
     go false false true = refl
     go false false false = refl
+
+-- from 100 hours on the first digit is not 0
+pub no-leading-zero : (n : ℕ) → n ≤ natAbs lastPosition → 100 ≤ n / perHour → getD (positionText n) 0 0 ≡ 48 → ⊥
+no-leading-zero n last many =
+    let h = n / perHour in
+    by-hours (λ w. getD (digits h w ++ colon ∷ clockOf n) 0 0 ≡ 48 → ⊥) h (λ a e. omega arith)
+    (λ a b e. omega (arith, place-100 h)) (λ a b e. omega (arith, place-1000 h)) (λ a e. omega (arith, place-1000 h, div-div-eq-div-mul h 1000 10))
 
 -- the position of a label, read from its end
 clockValue : List ℕ → ℕ
@@ -74,8 +84,8 @@ position-back n last =
     let l : length (positionText n) - 10 ≡ w = omega (arith, length-position n) in
     let b : h < 10 ^ w = by-hours (λ w. h < 10 ^ w) h (λ a. a) (λ a b. b) (λ a b. b) (λ a. omega arith) in
     ap₂ (λ a b. number a * perHour + clockValue (drop 1 b))
-    (ap (λ l. take l (positionText n)) l ∙ take-at (digits h w) (58 ∷ clockOf n) w (length-digits h w))
-    (ap (λ l. drop l (positionText n)) l ∙ drop-at (digits h w) (58 ∷ clockOf n) w (length-digits h w))
+    (ap (λ l. take l (positionText n)) l ∙ take-at (digits h w) (colon ∷ clockOf n) w (length-digits h w))
+    (ap (λ l. drop l (positionText n)) l ∙ drop-at (digits h w) (colon ∷ clockOf n) w (length-digits h w))
     ∙ ap₂ (λ a b. a * perHour + b) (number-digits h w b) (clock-back n)
     ∙ div-add-mod' n perHour
 
@@ -182,30 +192,55 @@ read-write label instant e =
 
 -- every instant label has labelLength bytes, and these are 24
 pub label-length : (f : Fields) → length (labelText f) ≡ labelLength
-label-length f = instants.label-length f
+unfolding numbersText
+label-length f = refl
 
 pub label-bytes : labelLength ≡ 24
 label-bytes = refl
 
--- the digits of the year are one of the label's years
-year-inside : (label : List ℕ) → fits (dateShape ++ timeShape decimals) label ≡ true → outside firstLabelYear lastLabelYear (pos (numberAt 0 4 label)) ≡ false
+-- ---- the reader's refusals
+
+-- four digits are a year of the range
+year-inside : (label : List ℕ) → fits (dateShape ++ timeShape decimals) label ≡ true → outside firstYear lastYear (pos (numberAt 0 4 label)) ≡ false
 year-inside label h =
     let b = number-below (numberAt 0 4 label) 4 in
-    inside-pos 0 (natAbs lastLabelYear) (numberAt 0 4 label) (omega arith) (omega (arith, ap (numberAt 0 4) (label-back label h)))
+    inside-pos 0 9999 (numberAt 0 4 label) (omega arith) (omega (arith, ap (numberAt 0 4) (label-back label h)))
 
-later-refusal : {A : Type 0} (b c t : Bool) (v : A) → cond b (refused 2) (cond c (refused 3) (cond t (refused 5) (value v))) ≡ refused 1 → ⊥
-later-refusal true c t v e = let z : _≡_ {A = ℕ} 2 1 = cc in omega arith
-later-refusal false true t v e = let z : _≡_ {A = ℕ} 3 1 = cc in omega arith
-later-refusal false false true v e = let z : _≡_ {A = ℕ} 5 1 = cc in omega arith
-later-refusal false false false v e = clash (cc)
+-- the refusals of fields, one after the other
+by-refusal :
+    {A G : Type 0} (y m d t : Bool) (v : A) (n : ℕ) → cond y (refused 1) (cond m (refused 2) (cond d (refused 3) (cond t (refused 5) (value v)))) ≡ refused n →
+    (y ≡ true → n ≡ 1 → G) → (n ≡ 2 → G) → (n ≡ 3 → G) → (n ≡ 5 → G) → G
+by-refusal true m d t v n e one two three five = one refl (cc)
+by-refusal false true d t v n e one two three five = two (cc)
+by-refusal false false true t v n e one two three five = three (cc)
+by-refusal false false false true v n e one two three five = five (cc)
+by-refusal false false false false v n e one two three five = clash (cc)
 
-join-year :
-    (year month day hour minute second millisecond : ℤ) → outside firstYear lastYear year ≡ false →
-    joinAnswer year month day hour minute second millisecond ≡ refused 1 → ⊥
+join-refusal :
+    {G : Type 0} (year month day hour minute second millisecond : ℤ) (n : ℕ) → joinAnswer year month day hour minute second millisecond ≡ refused n →
+    (outside firstYear lastYear year ≡ true → n ≡ 1 → G) → (n ≡ 2 → G) → (n ≡ 3 → G) → (n ≡ 5 → G) → G
 unfolding joinAnswer ofDate
-join-year year month day hour minute second millisecond h e =
-    later-refusal (outside (pos 1) (pos 12) month) (outside (pos 1) (monthLength year month) day) (badTime hour minute second millisecond)
-    (instantAt (dateOf year month day) (timeOfFields hour minute second millisecond)) (rw h at e)
+join-refusal year month day hour minute second millisecond =
+    by-refusal (outside firstYear lastYear year) (outside (pos 1) (pos 12) month) (outside (pos 1) (monthLength year month) day) (badTime hour minute second millisecond)
+    (instantAt (dateOf year month day) (timeOfFields hour minute second millisecond))
+
+-- a label of the shape is refused with 2, 3 or 5 if it is refused
+shaped-refusal :
+    {G : Type 0} (label : List ℕ) (n : ℕ) → fits (dateShape ++ timeShape decimals) label ≡ true → readFields label (drop 10 label) ≡ refused n →
+    (n ≡ 2 → G) → (n ≡ 3 → G) → (n ≡ 5 → G) → G
+shaped-refusal label n h e =
+    let t = drop 10 label in
+    join-refusal (pos (numberAt 0 4 label)) (pos (numberAt 5 2 label)) (pos (numberAt 8 2 label)) (pos (numberAt 1 2 t)) (pos (numberAt 4 2 t))
+    (pos (numberAt 7 2 t)) (pos (numberAt 10 decimals t)) n e (λ y _. no-both _ y (year-inside label h))
+
+-- reading refuses with 8 exactly if the label has another shape
+pub eight-exactly : (label : List ℕ) → (readAnswer label ≡ refused 8) ↔ (fits (dateShape ++ timeShape decimals) label ≡ false)
+unfolding readAnswer
+eight-exactly label = go (fits (dateShape ++ timeShape decimals) label) refl
+  where
+    go : (t : Bool) → fits (dateShape ++ timeShape decimals) label ≡ t → (cond t (readFields label (drop 10 label)) (refused 8) ≡ refused 8) ↔ (t ≡ false)
+    go true h = (λ e. shaped-refusal label 8 h e (λ z. absurd (omega arith)) (λ z. absurd (omega arith)) (λ z. absurd (omega arith)), λ f. no-both true refl f)
+    go false h = (λ e. refl, λ f. refl)
 
 -- the years of labels are in the range of years: reading never refuses with 1
 pub read-year : (label : List ℕ) → readAnswer label ≡ refused 1 → ⊥
@@ -213,8 +248,5 @@ unfolding readAnswer
 read-year label = go (fits (dateShape ++ timeShape decimals) label) refl
   where
     go : (t : Bool) → fits (dateShape ++ timeShape decimals) label ≡ t → cond t (readFields label (drop 10 label)) (refused 8) ≡ refused 1 → ⊥
+    go true h e = shaped-refusal label 1 h e (λ z. omega arith) (λ z. omega arith) (λ z. omega arith)
     go false h e = let z : _≡_ {A = ℕ} 8 1 = cc in omega arith
-    go true h e =
-        let t = drop 10 label in
-        join-year (pos (numberAt 0 4 label)) (pos (numberAt 5 2 label)) (pos (numberAt 8 2 label)) (pos (numberAt 1 2 t)) (pos (numberAt 4 2 t)) (pos (numberAt 7 2 t))
-        (pos (numberAt 10 decimals t)) (year-inside label h) e

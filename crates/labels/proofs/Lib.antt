@@ -2,7 +2,7 @@ pub mod Words
 pub mod Filled
 pub mod Writing
 pub mod Cells
-pub mod Spelling
+pub mod DigitWords
 pub mod Decimal
 pub mod OneByte
 pub mod Gaps

@@ -18,13 +18,13 @@ use Rattle.numbers.specs.Range.{outside}
 use Rattle.numbers.proofs.Between.{natural-within, read-high}
 use Rattle.numbers.proofs.Machine.{read}
 use Rattle.labels.specs.Digits.{digits}
-use Rattle.labels.specs.Clock.{clockText}
+use Rattle.labels.specs.Clock.{colon, clockText}
 use Rattle.labels.specs.Words.{word, bytesOf}
 use Rattle.labels.specs.Filled.{filled, Begins}
 use Rattle.labels.specs.Webvtt.{lastPosition, perHour, perMinute, perSecond, hourDigits, clockOf, positionText, positionLabel}
 use Rattle.labels.proofs.Decimal.{length-digits, drop-digits}
 use Rattle.labels.proofs.Words.{AllLe, drop-le, all-bytes, more-bytes, word-drop}
-use Rattle.labels.proofs.Spelling.{place-100, place-1000}
+use Rattle.labels.proofs.DigitWords.{place-100, place-1000}
 use Rattle.labels.proofs.Filled.{filled-begins, filled-over}
 
 -- ---- the range
@@ -72,7 +72,7 @@ two-to-five h =
     (λ a. (omega arith, omega arith))
 
 pub length-position : (n : ℕ) → length (positionText n) ≡ hourDigits (n / perHour) + 10
-length-position n = length-append (digits (n / perHour) (hourDigits (n / perHour))) (58 ∷ clockOf n) ∙ ap (λ l. l + 10) (length-digits (n / perHour) (hourDigits (n / perHour)))
+length-position n = length-append (digits (n / perHour) (hourDigits (n / perHour))) (colon ∷ clockOf n) ∙ ap (λ l. l + 10) (length-digits (n / perHour) (hourDigits (n / perHour)))
 
 five-digits : (n : ℕ) → n < 100000 → (48 + n / 10000) ∷ digits (n % 10000) 4 ≡ digits n 5
 five-digits n h =
@@ -83,37 +83,37 @@ five-digits n h =
     let e : n % 10000 % 10 ≡ n % 10 = omega arith in
     cc
 
-length-hours : (h count : ℕ) → length (digits h count ++ 58 ∷ []) ≡ count + 1
-length-hours h count = length-append (digits h count) (58 ∷ []) ∙ ap (λ l. l + 1) (length-digits h count)
+length-hours : (h count : ℕ) → length (digits h count ++ colon ∷ []) ≡ count + 1
+length-hours h count = length-append (digits h count) (colon ∷ []) ∙ ap (λ l. l + 1) (length-digits h count)
 
 module _ (h : ℕ) {count : ℕ} (c : count ≡ hourDigits h) (buffer : List ℕ) {after : List ℕ} (room : 8 ≤ length buffer) where
   -- two digits and the colon
-  pub few-hours : h < 100 → after ≡ filled 0 (bytesOf 2 (12336 + h % 10 * 256 + h / 10) ++ 58 ∷ []) buffer → Begins (digits h count ++ 58 ∷ []) 8 buffer after
+  pub few-hours : h < 100 → after ≡ filled 0 (bytesOf 2 (12336 + h % 10 * 256 + h / 10) ++ colon ∷ []) buffer → Begins (digits h count ++ colon ∷ []) 8 buffer after
   few-hours l e =
       let two : count ≡ 2 = c ∙ ap (λ t. cond t 2 (cond (ltb h 1000) 3 (cond (ltb h 10000) 4 5))) (lt-ltb h 100 l) in
       let w : 12336 + h % 10 * 256 + h / 10 ≡ word (digits h 2) = omega arith in
       let d = all-bytes (digits h 2) w (omega arith, (omega arith, tt)) refl ∙ sym (ap (digits h) two) in
-      filled-begins (digits h count ++ 58 ∷ []) [] buffer (e ∙ ap (λ l. filled 0 l buffer) (ap (λ l. l ++ 58 ∷ []) d ∙ sym (append-nil (digits h count ++ 58 ∷ []))))
-      (omega (arith, length-append (digits h count ++ 58 ∷ []) [], length-hours h count)) room
+      filled-begins (digits h count ++ colon ∷ []) [] buffer (e ∙ ap (λ l. filled 0 l buffer) (ap (λ l. l ++ colon ∷ []) d ∙ sym (append-nil (digits h count ++ colon ∷ []))))
+      (omega (arith, length-append (digits h count ++ colon ∷ []) [], length-hours h count)) room
 
   -- more of them: five and the colon in one number, without the first ones
   pub many-hours :
       h < 100000 → {four : ℕ} → four ≡ word (digits (h % 10000) 4) →
-      after ≡ filled 0 (bytesOf 7 ((58 * 1099511627776 + four * 256 + (48 + h / 10000)) / 2 ^ (8 * (5 - count))) ++ 0 ∷ []) buffer →
-      Begins (digits h count ++ 58 ∷ []) 8 buffer after
+      after ≡ filled 0 (bytesOf 7 ((colon * 1099511627776 + four * 256 + (48 + h / 10000)) / 2 ^ (8 * (5 - count))) ++ 0 ∷ []) buffer →
+      Begins (digits h count ++ colon ∷ []) 8 buffer after
   many-hours l {four} f e =
-      let text = digits h count ++ 58 ∷ [] in
+      let text = digits h count ++ colon ∷ [] in
       let most : count ≤ 5 = omega (arith, two-to-five h) in
       let k = 5 - count in
-      let w : 58 * 1099511627776 + four * 256 + (48 + h / 10000) ≡ word (digits h 5 ++ 58 ∷ []) =
-      omega (arith, f) ∙ ap (λ l. word (l ++ 58 ∷ [])) (five-digits h l) in
-      let a : AllLe 255 (digits h 5 ++ 58 ∷ []) = (omega arith, (omega arith, (omega arith, (omega arith, (omega arith, (omega arith, tt)))))) in
+      let w : colon * 1099511627776 + four * 256 + (48 + h / 10000) ≡ word (digits h 5 ++ colon ∷ []) =
+      omega (arith, f) ∙ ap (λ l. word (l ++ colon ∷ [])) (five-digits h l) in
+      let a : AllLe 255 (digits h 5 ++ colon ∷ []) = (omega arith, (omega arith, (omega arith, (omega arith, (omega arith, (omega arith, tt)))))) in
       let s : k + count ≡ 5 = omega arith in
-      let cut : drop k (digits h 5 ++ 58 ∷ []) ≡ text =
-      drop-append-le k (digits h 5) (58 ∷ []) (omega arith) ∙ ap (λ l. l ++ 58 ∷ []) (ap (λ n. drop k (digits h n)) (sym s) ∙ drop-digits h k count) in
-      let n = (58 * 1099511627776 + four * 256 + (48 + h / 10000)) / 2 ^ (8 * k) in
-      let v : n ≡ word text = ap (λ w. w / 2 ^ (8 * k)) w ∙ word-drop (digits h 5 ++ 58 ∷ []) k a ∙ ap word cut in
-      let b : bytesOf (count + 1) n ≡ text = all-bytes text v (subst (AllLe 255) cut (drop-le 255 k (digits h 5 ++ 58 ∷ []) a)) (length-hours h count) in
+      let cut : drop k (digits h 5 ++ colon ∷ []) ≡ text =
+      drop-append-le k (digits h 5) (colon ∷ []) (omega arith) ∙ ap (λ l. l ++ colon ∷ []) (ap (λ n. drop k (digits h n)) (sym s) ∙ drop-digits h k count) in
+      let n = (colon * 1099511627776 + four * 256 + (48 + h / 10000)) / 2 ^ (8 * k) in
+      let v : n ≡ word text = ap (λ w. w / 2 ^ (8 * k)) w ∙ word-drop (digits h 5 ++ colon ∷ []) k a ∙ ap word cut in
+      let b : bytesOf (count + 1) n ≡ text = all-bytes text v (subst (AllLe 255) cut (drop-le 255 k (digits h 5 ++ colon ∷ []) a)) (length-hours h count) in
       let m = more-bytes (count + 1) (6 - count) n in
       let t : 6 - count + (count + 1) ≡ 7 = omega arith in
       let p : bytesOf 7 n ++ 0 ∷ [] ≡ text ++ (m .0 ++ 0 ∷ []) =
@@ -123,12 +123,12 @@ module _ (h : ℕ) {count : ℕ} (c : count ≡ hourDigits h) (buffer : List ℕ
 
 -- the clock behind the hours makes the label
 pub clock-behind :
-    (n : ℕ) (before : List ℕ) {count : ℕ} {between after : List ℕ} → count ≡ hourDigits (n / perHour) → Begins (digits (n / perHour) count ++ 58 ∷ []) 8 before between →
+    (n : ℕ) (before : List ℕ) {count : ℕ} {between after : List ℕ} → count ≡ hourDigits (n / perHour) → Begins (digits (n / perHour) count ++ colon ∷ []) 8 before between →
     length between ≡ length before → count + 10 ≤ length before → after ≡ filled (count + 1) (clockOf n) between → after ≡ filled 0 (positionText n) before
 clock-behind n before {count} {between} c b l room e =
     let h = n / perHour in
-    let text = digits h count ++ 58 ∷ [] in
+    let text = digits h count ++ colon ∷ [] in
     let t = length-hours h count in
     e ∙ ap (λ k. filled k (clockOf n) between) (sym t)
     ∙ filled-over text (clockOf n) b (omega (arith, t)) (omega (arith, t, l)) (omega (arith, t))
-    ∙ ap (λ l. filled 0 l before) (append-snoc (digits h count) 58 (clockOf n) ∙ ap (λ k. digits h k ++ 58 ∷ clockOf n) c)
+    ∙ ap (λ l. filled 0 l before) (append-snoc (digits h count) colon (clockOf n) ∙ ap (λ k. digits h k ++ colon ∷ clockOf n) c)

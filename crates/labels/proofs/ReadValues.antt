@@ -80,7 +80,7 @@ digits-value n text e = ap (λ count. valuesFrom n (above (replicate count 48) t
 
 -- ---- the numbers of a text
 
-pub number-two : (text : List ℕ) (at : ℕ) → at + 2 ≤ length text → numberAt at 2 text ≡ (getD text at 0 - 48) * 10 + (getD text (suc at) 0 - 48)
+number-two : (text : List ℕ) (at : ℕ) → at + 2 ≤ length text → numberAt at 2 text ≡ (getD text at 0 - 48) * 10 + (getD text (suc at) 0 - 48)
 number-two text at h =
     let a : at < length text = omega arith in
     let b : suc at < length text = omega arith in

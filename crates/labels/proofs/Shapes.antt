@@ -1,7 +1,7 @@
 -- Texts of one shape.
 use Prim.Native.Nat.{ℕ, zero, suc, _+_, _/_, _%_}
 use mathlib.Core.Path.{_≡_, refl, sym, ap, ap₂, _∙_}
-use mathlib.Core.Bool.{Bool, true, false, _&&_}
+use mathlib.Core.Bool.{true, false, _&&_, and-false, and-assoc}
 use mathlib.Core.List.{List, [], _∷_, _++_}
 use borrow.Author.Tests.{eqb-true}
 use lib.Dec.{eqb}
@@ -12,27 +12,19 @@ use Rattle.labels.specs.Digits.{digits, number, isDigit, fitsOne, fits}
 use Rattle.labels.specs.Words.{partOf}
 use Rattle.labels.proofs.Decimal.{is-digit, allDigits, digits-number, length-digits}
 
-and-no : (a : Bool) → a && false ≡ false
-and-no true = refl
-and-no false = refl
-
-and-assoc : (a b c : Bool) → a && (b && c) ≡ (a && b) && c
-and-assoc true b c = refl
-and-assoc false b c = refl
-
 -- a text that fits is as long as the shape
 pub uneven : (shape text : List ℕ) → (length shape ≡ length text → ⊥) → fits shape text ≡ false
 uneven [] [] h = absurd (h refl)
 uneven [] (b ∷ bs) h = refl
 uneven (s ∷ ss) [] h = refl
-uneven (s ∷ ss) (b ∷ bs) h = rw (uneven ss bs (λ e. h (ap suc e))) (and-no (fitsOne s b))
+uneven (s ∷ ss) (b ∷ bs) h = rw (uneven ss bs (λ e. h (ap suc e))) (and-false (fitsOne s b))
 
 -- ---- a shape of two parts
 
-pub fits-append : (a b text : List ℕ) → fits (a ++ b) text ≡ fits a (take (length a) text) && fits b (drop (length a) text)
+fits-append : (a b text : List ℕ) → fits (a ++ b) text ≡ fits a (take (length a) text) && fits b (drop (length a) text)
 fits-append [] b text = refl
 fits-append (s ∷ a) b [] = refl
-fits-append (s ∷ a) b (x ∷ text) = ap (λ t. fitsOne s x && t) (fits-append a b text) ∙ and-assoc (fitsOne s x) _ _
+fits-append (s ∷ a) b (x ∷ text) = ap (λ t. fitsOne s x && t) (fits-append a b text) ∙ sym (and-assoc (fitsOne s x) _ _)
 
 -- the same from byte i of a text on
 pub fits-from :

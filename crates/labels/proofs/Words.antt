@@ -58,7 +58,7 @@ length-bytes zero n = refl
 length-bytes (suc count) n = length-append (bytesOf count n) _ ∙ omega (arith, length-bytes count n)
 
 -- the first bytes of such a number
-pub first-bytes : (l : List ℕ) (k : ℕ) → k ≤ length l → AllLe 255 l → bytesOf k (word l) ≡ take k l
+first-bytes : (l : List ℕ) (k : ℕ) → k ≤ length l → AllLe 255 l → bytesOf k (word l) ≡ take k l
 first-bytes l zero h a = refl
 first-bytes l (suc k) h a =
     ap₂ (λ front byte. front ++ byte ∷ []) (first-bytes l k (omega arith) a) (byte-at l k a) ∙ sym (take-suc l k 0 h)

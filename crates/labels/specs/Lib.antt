@@ -1,8 +1,9 @@
 pub mod Digits
 pub mod Clock
+pub mod Rfc3339
+pub mod Webvtt
+pub mod Written
+-- for proofs and private contracts only
 pub mod Words
 pub mod Filled
-pub mod Written
-pub mod Webvtt
-pub mod Rfc3339
 pub mod Parts

@@ -10,7 +10,7 @@ use Rattle.instant.specs.Answers.{joinAnswer}
 use Rattle.instant.specs.declared.Fields.{Fields}
 use Rattle.labels.specs.Digits.{numberAt, fits}
 use Rattle.labels.specs.Words.{pairOf}
-use Rattle.labels.specs.Rfc3339.{decimals, firstLabelYear, lastLabelYear, timeShape}
+use Rattle.labels.specs.Rfc3339.{decimals, timeShape}
 
 -- a whole number that some digits can be
 abbrev pub HasRoom : (count : ℕ) → ℤ → Type 0
@@ -28,7 +28,7 @@ pub record Narrow (year month day hour minute second fraction : ℕ) : Type 0 wh
 
 -- fields of an instant that have room in the label
 pub record NarrowFields (f : Fields) : Type 0 where
-  pub year-within : outside firstLabelYear lastLabelYear (f .year) ≡ false
+  pub year-within : HasRoom 4 (f .year)
   pub month-within : HasRoom 2 (f .month)
   pub day-within : HasRoom 2 (f .day)
   pub hour-within : HasRoom 2 (f .hour)
@@ -42,11 +42,11 @@ joined year month day hour minute second fraction =
     joinAnswer (pos year) (pos month) (pos day) (pos hour) (pos minute) (pos second) (pos fraction)
 
 -- the instant of a date, of the values of `HH:MM:SS` and of the decimals
-abbrev pub joinedClock : (year month day clock fraction : ℕ) → Outcome ℤ
-joinedClock year month day clock fraction = joined year month day (pairOf clock 0) (pairOf clock 3) (pairOf clock 6) fraction
+abbrev pub joinedValues : (year month day toSecond fraction : ℕ) → Outcome ℤ
+joinedValues year month day toSecond fraction = joined year month day (pairOf toSecond 0) (pairOf toSecond 3) (pairOf toSecond 6) fraction
 
--- the instant of a date and of the time behind it; 8 for a time of another shape
-abbrev pub readTime : (year month day decimals : ℕ) (part : List ℕ) → Outcome ℤ
-readTime year month day decimals part =
-    cond (fits (timeShape decimals) part)
-    (joined year month day (numberAt 1 2 part) (numberAt 4 2 part) (numberAt 7 2 part) (numberAt 10 decimals part)) (refused 8)
+-- the instant of a date and of a label's rest, which has `count` decimals; 8 for a rest of another shape
+abbrev pub readTime : (year month day count : ℕ) (rest : List ℕ) → Outcome ℤ
+readTime year month day count rest =
+    cond (fits (timeShape count) rest)
+    (joined year month day (numberAt 1 2 rest) (numberAt 4 2 rest) (numberAt 7 2 rest) (numberAt 10 count rest)) (refused 8)

@@ -1,5 +1,4 @@
 -- Instant labels, `YYYY-MM-DDTHH:MM:SS.mmmZ`: document 01, "Instant label". The form is that of RFC 3339, section 5.6.
--- The marks are 45 `-`, 84 `T`, 58 `:` and 90 `Z`, beside those of the clock.
 use Prim.Native.Nat.{ℕ, _+_}
 use mathlib.Core.Bool.{cond}
 use mathlib.Core.List.{List, [], _∷_, _++_}
@@ -9,14 +8,17 @@ use Rattle.refusal.specs.Outcome.{Outcome, refused, mapValue}
 use Rattle.instant.specs.Answers.{splitAnswer, joinAnswer}
 use Rattle.instant.specs.declared.Fields.{Fields}
 use Rattle.labels.specs.Digits.{digits, numberAt, fits}
-use Rattle.labels.specs.Clock.{clockText}
+use Rattle.labels.specs.Clock.{colon, clockText}
 
--- the years that the four digits of a label's year can be
-abbrev pub firstLabelYear : ℤ
-firstLabelYear = pos 0
+-- the marks, beside those of the clock: `-`, `T` and `Z`
+abbrev pub dash : ℕ
+dash = 45
 
-abbrev pub lastLabelYear : ℤ
-lastLabelYear = pos 9999
+abbrev pub letterT : ℕ
+letterT = 84
+
+abbrev pub letterZ : ℕ
+letterZ = 90
 
 -- how many decimals the seconds have, and how many bytes a label has
 abbrev pub decimals : ℕ
@@ -25,17 +27,19 @@ decimals = 3
 abbrev pub labelLength : ℕ
 labelLength = 21 + decimals
 
+-- `YYYY-MM-DD`
 abbrev pub dateText : (year month day : ℕ) → List ℕ
-dateText year month day = digits year 4 ++ 45 ∷ digits month 2 ++ 45 ∷ digits day 2
+dateText year month day = digits year 4 ++ dash ∷ digits month 2 ++ dash ∷ digits day 2
 
-abbrev pub timeText : (decimals hour minute second fraction : ℕ) → List ℕ
-timeText decimals hour minute second fraction = 84 ∷ digits hour 2 ++ 58 ∷ clockText decimals minute second fraction ++ 90 ∷ []
+-- `THH:MM:SS.` with `count` decimals, and `Z`
+abbrev pub timeText : (count hour minute second fraction : ℕ) → List ℕ
+timeText count hour minute second fraction = letterT ∷ digits hour 2 ++ colon ∷ clockText count minute second fraction ++ letterZ ∷ []
 
 -- the label of fields that are natural numbers
 unfoldable pub numbersText : (year month day hour minute second fraction : ℕ) → List ℕ
 numbersText year month day hour minute second fraction = dateText year month day ++ timeText decimals hour minute second fraction
 
--- the label of an instant's fields, whose year is one of the label's: of another it would have the last four digits only
+-- the label of fields that have room in it, as those of an instant in the range have; of others it would have the last digits, and no sign
 abbrev pub labelText : Fields → List ℕ
 labelText f =
     numbersText (natAbs (f .year)) (natAbs (f .month)) (natAbs (f .day)) (natAbs (f .hour)) (natAbs (f .minute)) (natAbs (f .second))
@@ -49,16 +53,17 @@ instantLabel instant = mapValue labelText (splitAnswer instant)
 abbrev pub dateShape : List ℕ
 dateShape = dateText 0 0 0
 
-abbrev pub timeShape : (decimals : ℕ) → List ℕ
-timeShape decimals = timeText decimals 0 0 0 0
+abbrev pub timeShape : (count : ℕ) → List ℕ
+timeShape count = timeText count 0 0 0 0
 
--- the instant of a date and of the time behind it
-abbrev pub readFields : (date time : List ℕ) → Outcome ℤ
-readFields date time =
-    joinAnswer (pos (numberAt 0 4 date)) (pos (numberAt 5 2 date)) (pos (numberAt 8 2 date)) (pos (numberAt 1 2 time)) (pos (numberAt 4 2 time))
+-- the instant of the numbers of a label, whose rest from the T on is `time`
+abbrev pub readFields : (label time : List ℕ) → Outcome ℤ
+readFields label time =
+    joinAnswer (pos (numberAt 0 4 label)) (pos (numberAt 5 2 label)) (pos (numberAt 8 2 label)) (pos (numberAt 1 2 time)) (pos (numberAt 4 2 time))
     (pos (numberAt 7 2 time)) (pos (numberAt 10 decimals time))
 
--- 8 for a label of another shape: another length, a non-digit where a digit stands, or a wrong mark; else what its fields make, where the
--- time begins at byte 10
+-- 8 for a "label not 24 bytes, a non-digit where a digit stands, or a wrong mark"; else what its fields make, where "the time is read from
+-- the rest of the label, which begins at byte 10". Four digits are never a year outside the range, so what they make is never 1
+-- (`read-year`), and the order is 8, then 2, 3, 5
 unfoldable pub readAnswer : (label : List ℕ) → Outcome ℤ
 readAnswer label = cond (fits (dateShape ++ timeShape decimals) label) (readFields label (drop 10 label)) (refused 8)

@@ -7,8 +7,9 @@ use lib.IntN.{ℤ, pos, natAbs}
 use Rattle.refusal.specs.Outcome.{Outcome, value, refused}
 use Rattle.numbers.specs.Range.{outside}
 use Rattle.labels.specs.Digits.{digits}
-use Rattle.labels.specs.Clock.{clockText}
+use Rattle.labels.specs.Clock.{colon, clockText}
 
+-- positions are 0 to 359999999999 milliseconds
 abbrev pub lastPosition : ℤ
 lastPosition = pos 359999999999
 
@@ -30,10 +31,10 @@ perSecond = 1000
 abbrev pub clockOf : (n : ℕ) → List ℕ
 clockOf n = clockText 3 (n % perHour / perMinute) (n % perMinute / perSecond) (n % perSecond)
 
--- 58 is `:`
+-- the label of a position of n milliseconds: hours, `:MM:SS.mmm`
 abbrev pub positionText : (n : ℕ) → List ℕ
-positionText n = digits (n / perHour) (hourDigits (n / perHour)) ++ 58 ∷ clockOf n
+positionText n = digits (n / perHour) (hourDigits (n / perHour)) ++ colon ∷ clockOf n
 
--- 6 for a position outside 0..359999999999, else its label
+-- 6 for a position outside its range, else its label
 unfoldable pub positionLabel : (position : ℤ) → Outcome (List ℕ)
 positionLabel position = cond (outside (pos 0) lastPosition position) (refused 6) (value (positionText (natAbs position)))

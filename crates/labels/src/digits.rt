@@ -60,7 +60,7 @@ pub fn read_values(shape: &[u8], text: &[u8], at: usize) -> Values
     Values::Read(v)
 }
 
-// The number of two digits, from byte k of some values on. A text is loaded at once as long as none of its bytes is used by itself.
+// The number of two digits, from byte k of some values on.
 pub fn pair(values: u64, k: usize) -> u32
     requires { ⌜ (values < 2 ^ 60) × (k < 8) ⌝ }
     ensures { λ r. ⌜ r ≡ pairOf values k ⌝ }
@@ -82,7 +82,7 @@ pub fn number(values: u64, count: usize) -> u32
     n
 }
 
-// Bytes of a text as one number.
+// Bytes of a text as one number: one load, as long as none of them is used by itself.
 fn word_at(text: &[u8], at: usize, count: usize) -> u64
     requires { ⌜ (count ≤ 8) × (at + count ≤ length (now text)) ⌝ }
     ensures { λ r. ⌜ r ≡ word (partOf at count (now (text .entry))) ⌝ }

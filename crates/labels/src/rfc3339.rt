@@ -18,7 +18,7 @@ ghost use Rattle.refusal.specs.Outcome.{value, refused, numberOutcome};
 ghost use Rattle.labels.specs.Written.{writeOutcome, bytesWritten, writtenBuffer};
 ghost use Rattle.labels.specs.Filled.{filled};
 ghost use Rattle.labels.specs.Rfc3339.{labelLength, numbersText, labelText, instantLabel, readAnswer};
-ghost use Rattle.labels.specs.Parts.{Narrow, NarrowFields, readTime, joinedClock};
+ghost use Rattle.labels.specs.Parts.{Narrow, NarrowFields, readTime, joinedValues};
 
 // The marks, beside colon and point.
 const DASH: u8 = b'-';
@@ -108,7 +108,8 @@ pub fn read_instant(label: &[u8]) -> NumberAnswer
     read_date(label)
 }
 
-// Reads the date, and has the time behind it read from the rest of the label.
+// The instant of a label of the right length: reads the date, and has the time read from the rest of the label. 8 for another shape,
+// then 2, 3, 5.
 fn read_date(label: &[u8]) -> NumberAnswer
     requires { ⌜ length (now label) ≡ labelLength ⌝ }
     ensures { λ r. ⌜ numberOutcome r ≡ readAnswer (now (label .entry)) ⌝ }
@@ -129,7 +130,7 @@ fn read_date(label: &[u8]) -> NumberAnswer
     )
 }
 
-// Reads the time behind a date, `THH:MM:SS.` with some decimals and `Z`.
+// The instant of a date and of the rest of its label, `THH:MM:SS.` with some decimals and `Z`. 8 for another shape, then 2, 3, 5.
 fn read_time(year: u32, month: u32, day: u32, part: &[u8], decimals: usize) -> NumberAnswer
     requires { ⌜ (decimals ≤ 6) × (length (now part) ≡ 11 + decimals) ⌝ }
     ensures { λ r. ⌜ numberOutcome r ≡ readTime year month day decimals (now (part .entry)) ⌝ }
@@ -141,7 +142,7 @@ fn read_time(year: u32, month: u32, day: u32, part: &[u8], decimals: usize) -> N
     if part[end] != Z {
         return malformed();
     }
-    let Values::Read(clock) = digits::read_values(&TO_SECOND, part, 1) else {
+    let Values::Read(time) = digits::read_values(&TO_SECOND, part, 1) else {
         return malformed();
     };
     let Values::Read(fraction) = digits::read_values(&FRACTION[..1 + decimals], part, 9) else {
@@ -151,23 +152,23 @@ fn read_time(year: u32, month: u32, day: u32, part: &[u8], decimals: usize) -> N
         year,
         month,
         day,
-        clock,
+        time,
         digits::number(fraction, 1 + decimals),
     )
 }
 
-// The instant of a date, of the values of `HH:MM:SS` and of the decimals.
-fn join(year: u32, month: u32, day: u32, clock: u64, fraction: u32) -> NumberAnswer
-    requires { ⌜ clock < 2 ^ 60 ⌝ }
-    ensures { λ r. ⌜ numberOutcome r ≡ joinedClock year month day clock fraction ⌝ }
+// The instant of a date, of the values of `HH:MM:SS` and of the number of the decimals. 2, 3, 5 as its fields.
+fn join(year: u32, month: u32, day: u32, time: u64, fraction: u32) -> NumberAnswer
+    requires { ⌜ time < 2 ^ 60 ⌝ }
+    ensures { λ r. ⌜ numberOutcome r ≡ joinedValues year month day time fraction ⌝ }
 {
     instant::join_instant(
         year as i64,
         month as i64,
         day as i64,
-        digits::pair(clock, 0) as i64,
-        digits::pair(clock, 3) as i64,
-        digits::pair(clock, 6) as i64,
+        digits::pair(time, 0) as i64,
+        digits::pair(time, 3) as i64,
+        digits::pair(time, 6) as i64,
         fraction as i64,
     )
 }

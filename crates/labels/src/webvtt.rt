@@ -15,6 +15,7 @@ ghost use Rattle.labels.specs.Written.{writeOutcome, bytesWritten, writt
 ghost use Rattle.labels.specs.Filled.{filled, Begins};
 ghost use Rattle.labels.specs.Webvtt.{hourDigits, clockOf, positionLabel};
 ghost use Rattle.labels.specs.Digits.{digits};
+ghost use Rattle.labels.specs.Clock.{colon};
 
 const LAST_POSITION: i64 = 359999999999;
 
@@ -47,7 +48,7 @@ pub fn write_position(position: i64, out: &mut [u8]) -> WriteAnswer
 // Writes the digits of the hours and a colon. Bytes behind them, up to byte 8, may change.
 fn put_hours(out: &mut [u8], hours: u32, count: usize)
     requires { ⌜ ((hours < 100000) × (count ≡ hourDigits hours)) × (8 ≤ length (now out)) ⌝ }
-    ensures { λ r. ⌜ Begins (digits hours count ++ 58 ∷ []) 8 (now (out .entry)) (now (out .exit)) ⌝ }
+    ensures { λ r. ⌜ Begins (digits hours count ++ colon ∷ []) 8 (now (out .entry)) (now (out .exit)) ⌝ }
 {
     if hours < 100 {
         buffer::store(

@@ -1,5 +1,5 @@
 use native.Mathlib.Omega.{arith}
-use Rattle.labels.proofs.Spelling.{four-small, four-digits}
+use Rattle.labels.proofs.DigitWords.{four-small, four-digits}
 use borrow.Author.Needs.{needs}
 use Rattle.labels.proofs.digits.four.Statement.{statement}
 use Rattle.labels.proofs.digits.four.Tie as tie

@@ -1,5 +1,5 @@
 use native.Mathlib.Omega.{arith}
-use Rattle.labels.proofs.Spelling.{pairs-small, pairs-digits}
+use Rattle.labels.proofs.DigitWords.{pairs-small, pairs-digits}
 use borrow.Author.Needs.{needs}
 use Rattle.labels.proofs.digits.three_pairs.Statement.{statement}
 use Rattle.labels.proofs.digits.three_pairs.Tie as tie

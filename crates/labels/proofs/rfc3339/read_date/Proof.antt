@@ -6,7 +6,7 @@ use Rattle.labels.specs.Rfc3339.{decimals}
 use Rattle.labels.specs.Words.{partOf}
 use Rattle.labels.specs.Parts.{readTime}
 use Rattle.labels.proofs.ReadValues.{values-read, values-malformed}
-use Rattle.labels.proofs.Reading.{toMonth, day, wrong-month, wrong-day, date-read}
+use Rattle.labels.proofs.Reading.{toMonthShape, dayShape, wrong-month, wrong-day, date-read}
 use borrow.Author.Needs.{needs}
 use Rattle.labels.proofs.rfc3339.read_date.Statement.{statement}
 use Rattle.labels.proofs.rfc3339.read_date.Tie as tie
@@ -27,7 +27,7 @@ malformed-requires : tie.Need-malformed-requires
 malformed-requires c κs = search needs
 
 returns : tie.Need-returns
-returns c = c .malformed .ensures ∙ wrong-month (c .before .before .before .before .before .before .args .label .now) (values-malformed toMonth (partOf 0 8 (c .before .before .before .before .before .before .args .label .now)) (sym (c .before .enum-told .given .1) ∙ c .before .before .before .read-values .ensures))
+returns c = c .malformed .ensures ∙ wrong-month (c .before .before .before .before .before .before .args .label .now) (values-malformed toMonthShape (partOf 0 8 (c .before .before .before .before .before .before .args .label .now)) (sym (c .before .enum-told .given .1) ∙ c .before .before .before .read-values .ensures))
 
 slice-aggregate-read-values-2 : tie.Need-slice-aggregate-read-values-2
 slice-aggregate-read-values-2 c = search needs
@@ -47,25 +47,25 @@ malformed-requires-2 c κs = search needs
 returns-2 : tie.Need-returns-2
 returns-2 c =
     let label = c .before .before .before .before .before .before .before .before .before .before .before .args .label .now in
-    c .malformed2 .ensures ∙ wrong-day label ((let g = c .before .before .before .before .before .before .front .given in values-read toMonth (partOf 0 8 (c .before .before .before .before .before .before .before .before .before .before .before .args .label .now)) (g .0 .0) (omega arith) (sym (g .1) ∙ c .before .before .before .before .before .before .before .before .read-values .ensures)) .shape-fits) (values-malformed day (partOf 8 2 label) (sym (c .before .enum-told2 .given .1) ∙ c .before .before .before .read-values2 .ensures))
+    c .malformed2 .ensures ∙ wrong-day label ((let g = c .before .before .before .before .before .before .front .given in values-read toMonthShape (partOf 0 8 (c .before .before .before .before .before .before .before .before .before .before .before .args .label .now)) (g .0 .0) (omega arith) (sym (g .1) ∙ c .before .before .before .before .before .before .before .before .read-values .ensures)) .shape-fits) (values-malformed dayShape (partOf 8 2 label) (sym (c .before .enum-told2 .given .1) ∙ c .before .before .before .read-values2 .ensures))
 
 pair-requires : tie.Need-pair-requires
-pair-requires c κs = ((let g = c .before .before .before .before .before .before .front .given in values-read toMonth (partOf 0 8 (c .before .before .before .before .before .before .before .before .before .before .before .args .label .now)) (g .0 .0) (omega arith) (sym (g .1) ∙ c .before .before .before .before .before .before .before .before .read-values .ensures)) .small, omega arith)
+pair-requires c κs = ((let g = c .before .before .before .before .before .before .front .given in values-read toMonthShape (partOf 0 8 (c .before .before .before .before .before .before .before .before .before .before .before .args .label .now)) (g .0 .0) (omega arith) (sym (g .1) ∙ c .before .before .before .before .before .before .before .before .read-values .ensures)) .small, omega arith)
 
 mul-year : tie.Need-mul-year
 mul-year c = search needs
 
 pair-requires-2 : tie.Need-pair-requires-2
-pair-requires-2 c κs = ((let g = c .before .before .before .before .before .before .before .front .given in values-read toMonth (partOf 0 8 (c .before .before .before .before .before .before .before .before .before .before .before .before .args .label .now)) (g .0 .0) (omega arith) (sym (g .1) ∙ c .before .before .before .before .before .before .before .before .before .read-values .ensures)) .small, omega arith)
+pair-requires-2 c κs = ((let g = c .before .before .before .before .before .before .before .front .given in values-read toMonthShape (partOf 0 8 (c .before .before .before .before .before .before .before .before .before .before .before .before .args .label .now)) (g .0 .0) (omega arith) (sym (g .1) ∙ c .before .before .before .before .before .before .before .before .before .read-values .ensures)) .small, omega arith)
 
 add-year : tie.Need-add-year
 add-year c = search needs
 
 pair-requires-3 : tie.Need-pair-requires-3
-pair-requires-3 c κs = ((let g = c .before .before .before .before .before .before .before .before .front .given in values-read toMonth (partOf 0 8 (c .before .before .before .before .before .before .before .before .before .before .before .before .before .args .label .now)) (g .0 .0) (omega arith) (sym (g .1) ∙ c .before .before .before .before .before .before .before .before .before .before .read-values .ensures)) .small, omega arith)
+pair-requires-3 c κs = ((let g = c .before .before .before .before .before .before .before .before .front .given in values-read toMonthShape (partOf 0 8 (c .before .before .before .before .before .before .before .before .before .before .before .before .before .args .label .now)) (g .0 .0) (omega arith) (sym (g .1) ∙ c .before .before .before .before .before .before .before .before .before .before .read-values .ensures)) .small, omega arith)
 
 pair-requires-4 : tie.Need-pair-requires-4
-pair-requires-4 c κs = ((let g = c .before .before .before .before .back .given in values-read day (partOf 8 2 (c .before .before .before .before .before .before .before .before .before .before .before .before .before .before .args .label .now)) (g .0 .0) (omega arith) (sym (g .1) ∙ c .before .before .before .before .before .before .read-values2 .ensures)) .small, omega arith)
+pair-requires-4 c κs = ((let g = c .before .before .before .before .back .given in values-read dayShape (partOf 8 2 (c .before .before .before .before .before .before .before .before .before .before .before .before .before .before .args .label .now)) (g .0 .0) (omega arith) (sym (g .1) ∙ c .before .before .before .before .before .before .read-values2 .ensures)) .small, omega arith)
 
 sub-read-time : tie.Need-sub-read-time
 sub-read-time c = search needs
@@ -85,7 +85,7 @@ returns-3 c =
     let label = s .args .label .now in
     c .read-time .ensures
     ∙ (λ i. readTime (100 * c .before .before .before .before .before .pair .ensures i + c .before .before .before .before .pair2 .ensures i) (c .before .before .before .pair3 .ensures i) (c .before .before .pair4 .ensures i) decimals (take (length label - 10) (drop 10 label)))
-    ∙ date-read label (c .before .before .before .before .before .before .before .before .before .before .before .before .front .given .0 .0) (c .before .before .before .before .before .before .before .back .given .0 .0) (s .pre) (let g = c .before .before .before .before .before .before .before .before .before .before .before .before .front .given in values-read toMonth (partOf 0 8 (c .before .before .before .before .before .before .before .before .before .before .before .before .before .before .before .before .before .args .label .now)) (g .0 .0) (omega arith) (sym (g .1) ∙ c .before .before .before .before .before .before .before .before .before .before .before .before .before .before .read-values .ensures)) (let g = c .before .before .before .before .before .before .before .back .given in values-read day (partOf 8 2 (c .before .before .before .before .before .before .before .before .before .before .before .before .before .before .before .before .before .args .label .now)) (g .0 .0) (omega arith) (sym (g .1) ∙ c .before .before .before .before .before .before .before .before .before .read-values2 .ensures))
+    ∙ date-read label (c .before .before .before .before .before .before .before .before .before .before .before .before .front .given .0 .0) (c .before .before .before .before .before .before .before .back .given .0 .0) (s .pre) (let g = c .before .before .before .before .before .before .before .before .before .before .before .before .front .given in values-read toMonthShape (partOf 0 8 (c .before .before .before .before .before .before .before .before .before .before .before .before .before .before .before .before .before .args .label .now)) (g .0 .0) (omega arith) (sym (g .1) ∙ c .before .before .before .before .before .before .before .before .before .before .before .before .before .before .read-values .ensures)) (let g = c .before .before .before .before .before .before .before .back .given in values-read dayShape (partOf 8 2 (c .before .before .before .before .before .before .before .before .before .before .before .before .before .before .before .before .before .args .label .now)) (g .0 .0) (omega arith) (sym (g .1) ∙ c .before .before .before .before .before .before .before .before .before .read-values2 .ensures))
 
 pub read-date-spec : {M : Type 1} → statement M
 read-date-spec =

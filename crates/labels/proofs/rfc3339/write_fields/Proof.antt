@@ -4,7 +4,8 @@ use borrow.Author.Needs.{needs}
 use lib.Dec.{lit<}
 use Rattle.labels.specs.Rfc3339.{decimals, labelText}
 use Rattle.labels.specs.Filled.{filled}
-use Rattle.labels.proofs.Instants.{room-cast, narrow-read, text-read, label-length}
+use Rattle.labels.proofs.Instants.{room-cast, narrow-read, text-read}
+use Rattle.labels.proofs.Laws.{label-length}
 use Rattle.labels.proofs.Writing.{no-room, all-written}
 use borrow.Author.Needs.{needs}
 use Rattle.labels.proofs.rfc3339.write_fields.Statement.{statement}

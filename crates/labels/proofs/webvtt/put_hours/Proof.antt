@@ -1,5 +1,5 @@
 use Prim.Native.Nat.{_%_}
-use Rattle.labels.proofs.Spelling.{four-below}
+use Rattle.labels.proofs.DigitWords.{four-below}
 use native.Mathlib.Omega.{arith}
 use Rattle.labels.proofs.Positions.{two-to-five, few-hours, many-hours}
 use borrow.Author.Needs.{needs}

@@ -8,7 +8,7 @@ use lib.Bits.{bitAnd}
 use Rattle.labels.specs.Digits.{digits}
 use Rattle.labels.specs.Words.{word, bytesOf}
 use Rattle.labels.proofs.Words.{all-bytes}
-use Rattle.labels.proofs.Cells.{Cell, pair, mark, Pairs, placed, zeroed, text, tens-small, digits-of}
+use Rattle.labels.proofs.Cells.{Cell, pair, mark, PairsBelow, placed, zeroed, text, tens-small, digits-of}
 
 -- a digit after the ones behind it are cut off, and before
 pub place-1000 : (n : ℕ) → n / 10 / 10 / 10 ≡ n / 1000
@@ -21,7 +21,7 @@ module _ (n : ℕ) (h : n < 10000) where
   abbrev two-pairs : List Cell
   two-pairs = pair (n / 100) ∷ pair (n % 100) ∷ []
 
-  both-below : Pairs two-pairs
+  both-below : PairsBelow two-pairs
   both-below = (omega arith, (omega arith, tt))
 
   both-placed : n % 100 * 65536 + n / 100 ≡ placed two-pairs
