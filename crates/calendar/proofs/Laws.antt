@@ -1,5 +1,5 @@
 -- The theorems of the calendar, over the definition by steps.
-use Prim.Native.Nat.{ℕ, _+_, _≤_, _<_}
+use Prim.Native.Nat.{ℕ, _+_, _-_, _≤_, _<_}
 use mathlib.Core.Path.{_≡_, refl, sym, ap, ap₂, _∙_, subst}
 use mathlib.Core.Logic.{_↔_}
 use mathlib.Core.Bool.{Bool, true, false, cond, not, _&&_}
@@ -7,6 +7,7 @@ use native.Mathlib.Numerals.{add-one}
 use native.Mathlib.Omega.{arith}
 use lib.Dec.{ltb}
 use lib.IntN.{ℤ, pos, natAbs, _+ℤ_, +ℤ-assoc}
+use lib.ListN.{getD, take}
 use lib.Signed.{ltZ}
 use borrow.Author.Tests.{ltb-true, lt-ltb, eqb-true, eq-eqb}
 use Rattle.refusal.specs.Outcome.{value, refused}
@@ -18,12 +19,12 @@ use Rattle.numbers.proofs.Between.{inside-pos, inside-from}
 use Rattle.numbers.proofs.Bools.{no-both}
 use Rattle.calendar.specs.declared.Date.{Date}
 use Rattle.calendar.specs.Range.{firstYear, lastYear, firstCount, lastCount}
-use Rattle.calendar.specs.Gregorian.{divides, leapYear, dateOf, nextDay, dateAfter, ValidDate, Earlier, by-year, by-month, by-day}
-use Rattle.calendar.specs.Count.{dateOfCount, countOfDate, weekday, weekdayAfter, dayOfYear}
+use Rattle.calendar.specs.Gregorian.{divides, leapYear, monthLengths, daysBefore, dateOf, nextDay, dateAfter, ValidDate, Earlier, by-year, by-month, by-day}
+use Rattle.calendar.specs.Count.{dateOfCount, countOfDate, weekday, weekdayAfter, sum, dayOfYear}
 use Rattle.calendar.specs.Answers.{daysAnswer, civilAnswer, addDaysAnswer}
 use Rattle.calendar.specs.Closed.{fromYear, toYear, baseYear, cycle, lastDay, leapDay, leapℕ, leaps, start, monthDays, before, Valid, InRange, dayNumber, public}
 use Rattle.calendar.proofs.Leap.{leap-public}
-use Rattle.calendar.proofs.Months.{length-public, within-year}
+use Rattle.calendar.proofs.Months.{length-public, within-year, table-sum}
 use Rattle.calendar.proofs.Order.{Precedes, in-year, in-month, in-day, precedes-less, trichotomy}
 use Rattle.calendar.proofs.Steps.{at, found, count-after, at-in-range}
 use Rattle.calendar.proofs.Tests.{valid-answer, accepted-valid, accepted-is}
@@ -152,6 +153,17 @@ module _ (a b : ℤ) (p : outside firstCount lastCount a ≡ false) (q : outside
   smaller-count-is-earlier h =
       less-earlier (since firstCount a) (since firstCount b) (ltb-true (since firstCount a) (since firstCount b) (sym from-firsts ∙ h))
 
+-- an earlier valid date exactly where the count is smaller
+pub earlier-exactly : (d e : Date) → ValidDate d → ValidDate e → Earlier d e ↔ (ltZ (countOfDate d) (countOfDate e) ≡ true)
+earlier-exactly d e v w =
+    let a = count-inside d v in
+    let b = count-inside e w in
+    let p = date-of-count-of-date d v in
+    let q = date-of-count-of-date e w in (
+      λ h. earlier-has-smaller-count (countOfDate d) (countOfDate e) a b (subst (λ x. Earlier x (dateOfCount (countOfDate e))) (sym p) (subst (Earlier d) (sym q) h)),
+      λ h. subst (Earlier d) q (subst (λ x. Earlier x (dateOfCount (countOfDate e))) p (smaller-count-is-earlier (countOfDate d) (countOfDate e) a b h)),
+    )
+
 -- the ends of the range
 pub first-count-is-first-date : civilAnswer firstCount ≡ value (dateOf firstYear (pos 1) (pos 1))
 unfolding civilAnswer dateOfCount dateAfter
@@ -202,6 +214,10 @@ day-of-year-is-in-range d v =
     ∙ ap₂ (outside (pos 1)) (year-length (t .y)) (year-day (t .y) (t .m) (t .d) w)
     ∙ inside-pos 1 (365 + l) (before l (t .m) + t .d) (omega (arith, w .day-low))
     (omega (arith, within-year l (t .m) (t .d) (w .month-low) (w .month-high) (w .day-low) (w .day-high)))
+
+-- the rule of the table of days before each month: the lengths of the months before it
+pub table-rule : (m : ℕ) → 1 ≤ m → m ≤ 12 → getD daysBefore (m - 1) 0 ≡ sum (take (m - 1) (monthLengths false))
+table-rule = table-sum
 
 -- the leap flag is the leap rule
 leap-tests : (a b c : Bool) → ((a && not (b && not c)) ≡ true) ↔ ((a ≡ true) × (b ≡ true → c ≡ true))

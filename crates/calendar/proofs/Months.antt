@@ -1,6 +1,6 @@
 -- The months of a year: one law for what is shown month by month, their lengths and the days before them.
 use Prim.Native.Nat.{ℕ, zero, suc, _+_, _-_, _*_, _≤_, _<_}
-use mathlib.Core.Path.{_≡_, refl, ap, subst}
+use mathlib.Core.Path.{_≡_, refl, sym, ap, _∙_, subst}
 use mathlib.Core.Bool.{Bool, true, false, cond}
 use native.Mathlib.Omega.{arith}
 use native.Mathlib.Decide.{decLt}
@@ -11,7 +11,7 @@ use lib.Dec.{ltb}
 use lib.IntN.{pos, _+ℤ_}
 use lib.ListN.{getD, take}
 use mir.Val.{boolByte}
-use Rattle.calendar.specs.Gregorian.{leapYear, monthLengths, monthLength}
+use Rattle.calendar.specs.Gregorian.{leapYear, monthLengths, monthLength, daysBefore}
 use Rattle.calendar.specs.Count.{sum}
 use Rattle.calendar.specs.Closed.{baseYear, leapℕ, leapDay, monthDays, before, fromMarch}
 use Rattle.calendar.proofs.Leap.{leap-public}
@@ -96,13 +96,13 @@ pub before-public : (y m : ℕ) → 1 ≤ m → m ≤ 12 → sum (take (m - 1) (
 unfolding leapDay
 before-public y m lo hi = rw (leap-public y) (before-of (leapℕ y) m lo hi)
 
--- the rule of the table "days before each month in a common year"
-unfoldable pub days-before : List ℕ
-days-before = 0 ∷ 31 ∷ 59 ∷ 90 ∷ 120 ∷ 151 ∷ 181 ∷ 212 ∷ 243 ∷ 273 ∷ 304 ∷ 334 ∷ []
+-- the table of the days before each month in a common year
+pub table-entry : (m : ℕ) → 1 ≤ m → m ≤ 12 → (getD daysBefore (m - 1) 0 ≡ before 0 m) × (before 0 m ≤ 334)
+unfolding daysBefore before monthDays
+table-entry = each-month (λ m. (getD daysBefore (m - 1) 0 ≡ before 0 m) × (before 0 m ≤ 334)) (omega arith)
 
-pub table-rule : (m : ℕ) → 1 ≤ m → m ≤ 12 → (getD days-before (m - 1) 0 ≡ before 0 m) × (before 0 m ≤ 334)
-unfolding days-before before monthDays
-table-rule = each-month (λ m. (getD days-before (m - 1) 0 ≡ before 0 m) × (before 0 m ≤ 334)) (omega arith)
+pub table-sum : (m : ℕ) → 1 ≤ m → m ≤ 12 → getD daysBefore (m - 1) 0 ≡ sum (take (m - 1) (monthLengths false))
+table-sum m lo hi = table-entry m lo hi .0 ∙ sym (before-of false m lo hi)
 
 -- the table of the days from 1 March to each month, and its rule
 unfoldable pub days-from-march : List ℕ

@@ -23,6 +23,10 @@ leapYear y = divides 4 y && not (divides 100 y && not (divides 400 y))
 unfoldable pub monthLengths : (leap : Bool) → List ℕ
 monthLengths leap = 31 ∷ cond leap 29 28 ∷ 31 ∷ 30 ∷ 31 ∷ 30 ∷ 31 ∷ 31 ∷ 30 ∷ 31 ∷ 30 ∷ 31 ∷ []
 
+-- the days before each month in a common year: document 01's table, whose rule is `table-rule`
+unfoldable pub daysBefore : List ℕ
+daysBefore = 0 ∷ 31 ∷ 59 ∷ 90 ∷ 120 ∷ 151 ∷ 181 ∷ 212 ∷ 243 ∷ 273 ∷ 304 ∷ 334 ∷ []
+
 -- the length of month m, 1 to 12, of the year y
 unfoldable pub monthLength : (y m : ℤ) → ℤ
 monthLength y m = pos (getD (monthLengths (leapYear y)) (natAbs m - 1) 0)

@@ -2,8 +2,8 @@
 // algorithms 3 and 4, in the paper's names. Years are counted from BASE_YEAR, which is a multiple of 400, and run to toYear; the days
 // of the range are counted from its first, and run to lastDay.
 
-use super::range::BASE_YEAR;
-use super::range::CYCLE;
+use super::base::BASE_YEAR;
+use super::base::CYCLE;
 use super::year;
 use crate::Date;
 ghost use mathlib.Core.Path.{_≡_};

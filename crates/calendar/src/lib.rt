@@ -7,17 +7,20 @@
 //     last_day_of_month(year, month)           month length    refusals 1, 2
 //     day_of_year(year, month, day)            1 to 366        refusals 1, 2, 3
 //     add_days(year, month, day, days)         shifted date    refusals 1, 2, 3, then 4
+//
+// The module `range` has the first and last year and count.
 
-use range::BASE_COUNT;
-use range::BASE_YEAR;
+use base::BASE_COUNT;
+use base::BASE_YEAR;
+use base::FIRST_WEEKDAY;
 use range::FIRST_COUNT;
-use range::FIRST_WEEKDAY;
 use range::FIRST_YEAR;
 use range::LAST_COUNT;
 use range::LAST_YEAR;
 use refusal::NumberAnswer;
 use refusal::Refusal;
 
+mod base;
 mod convert;
 pub mod range;
 mod year;

@@ -8,16 +8,3 @@ pub const LAST_YEAR: i64 = 9999;
 pub const FIRST_COUNT: i64 = -719528;
 
 pub const LAST_COUNT: i64 = 2932896;
-
-// The weekday of the first day: Saturday.
-pub const FIRST_WEEKDAY: u32 = 6;
-
-// The years after which the calendar repeats itself, and their days.
-pub const CYCLE_YEARS: u32 = 400;
-
-pub const CYCLE: u32 = 146097;
-
-// One cycle before the first year, and the count of the first day then: inside, years and days are counted from there.
-pub const BASE_YEAR: i64 = FIRST_YEAR - CYCLE_YEARS as i64;
-
-pub const BASE_COUNT: i64 = FIRST_COUNT - CYCLE as i64;

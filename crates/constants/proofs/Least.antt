@@ -59,6 +59,3 @@ module _ (test : ℕ → Bool) where
   least-stays k l n e le =
       let f = finds-at k n .0 e in
       finds-at l n .1 (record { below = omega (arith, f .below); passes = f .passes; least = f .least })
-
-  pub none-stays : (k l : ℕ) → leastBelow test l ≡ none → k ≤ l → leastBelow test k ≡ none
-  none-stays k l e le = finds-none k .1 (λ n lt. finds-none l .0 e n (omega arith))

@@ -134,11 +134,6 @@ module _ (first last : ℤ) (some : ltZ last first ≡ false) where
       ap (λ l. ltZ l (first +ℤ pos n)) (sym (add-since first last some)) ∙ lt-add first (since first last) n
       ∙ le-ltb (since first last) n h
 
-  pub above-last : (n : ℕ) → since first last < n → ltZ last (first +ℤ pos n) ≡ true
-  above-last n h =
-      ap (λ l. ltZ l (first +ℤ pos n)) (sym (add-since first last some)) ∙ lt-add first (since first last) n
-      ∙ lt-ltb (since first last) n h
-
   pub inside : (n : ℕ) → n ≤ since first last → outside first last (first +ℤ pos n) ≡ false
   inside n h = ap₂ _||_ (not-below first n) (not-above n h)
 
@@ -151,9 +146,6 @@ not-outside first last z lo hi = ap₂ _||_ lo hi
 
 pub below-outside : (first last z : ℤ) → ltZ z first ≡ true → outside first last z ≡ true
 below-outside first last z lo = ap (λ t. t || ltZ last z) lo
-
-pub above-outside : (first last z : ℤ) → ltZ z first ≡ false → ltZ last z ≡ true → outside first last z ≡ true
-above-outside first last z lo hi = ap₂ _||_ lo hi
 
 -- `eqZ`, taken apart
 pub eqZ-same : (z : ℤ) → eqZ z z ≡ true

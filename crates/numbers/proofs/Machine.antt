@@ -1,7 +1,7 @@
 -- A tested i64 as a natural number, and a natural number as an i64.
 use Prim.Native.Nat.{ℕ, zero, suc, _+_, _≤_, _<_, _^_}
 use mathlib.Core.Path.{_≡_, refl, sym, ap, _∙_, subst}
-use mathlib.Core.Bool.{Bool, true, false, _||_}
+use mathlib.Core.Bool.{Bool, true, false}
 use native.Mathlib.Nat.{lt-of-le-of-lt}
 use native.Mathlib.Omega.{arith}
 use lib.IntN.{ℤ, pos, negsuc, natAbs, negℤ, _+ℤ_, _-ℤ_, +ℤ-comm}
@@ -12,7 +12,7 @@ use mir.Syntax.{Width, w64}
 use mir.Val.{SFits, Fits, bits, toZ, ofZ}
 use mir.Facts.{toZ-ofZ, toZ-pos}
 use Rattle.numbers.specs.Range.{outside, since}
-use Rattle.numbers.proofs.Integers.{on-sub, sub-pos, since-is, since-le, below-outside}
+use Rattle.numbers.proofs.Integers.{on-sub, sub-pos, since-is, since-le}
 use Rattle.numbers.proofs.Bools.{no-both}
 
 -- a signed local holds the bits of z, and each reading goes through them
@@ -30,28 +30,8 @@ cast-pos w n h e = subst (λ z. T (nonNeg z) × Fits w (natAbs z)) (sym e) (tt, 
 pub key-is : {z : ℤ} → SFits w64 z → (k : ℕ) → k < 2 ^ 63 → ofZ w64 z ≡ k → z ≡ pos k
 key-is f k small e = sym (toZ-ofZ f) ∙ ap (toZ w64) e ∙ toZ-pos w64 small
 
--- what the two tests of a local say of its number
+-- what a test that was answered for a local says of its number
 module _ (first last : ℤ) {z : ℤ} (f : SFits w64 z) where
-  lower : ltZ (read z) first ≡ ltZ z first
-  lower = ap (λ (y : ℤ). ltZ y first) (toZ-ofZ f)
-
-  upper : ltZ last (read z) ≡ ltZ last z
-  upper = ap (ltZ last) (toZ-ofZ f)
-
-  pub tested-below : ltZ (read z) first ≡ true → outside first last z ≡ true
-  tested-below lo = below-outside first last z (sym lower ∙ lo)
-
-  -- not below the first: the second test decides
-  pub tested-last : ltZ (read z) first ≡ false → ltZ last (read z) ≡ outside first last z
-  tested-last lo = upper ∙ ap (λ t. t || ltZ last z) (sym (sym lower ∙ lo))
-
-  pub tested-above : ltZ (read z) first ≡ false → ltZ last (read z) ≡ true → outside first last z ≡ true
-  tested-above lo hi = sym (tested-last lo) ∙ hi
-
-  pub tested-inside : ltZ (read z) first ≡ false → ltZ last (read z) ≡ false → outside first last z ≡ false
-  tested-inside lo hi = sym (tested-last lo) ∙ hi
-
-  -- the same, of a test that was answered for a local
   pub answered : {r t : Bool} → r ≡ outside first last (read z) → r ≡ t → outside first last z ≡ t
   answered e h = ap (outside first last) (sym (toZ-ofZ f)) ∙ sym e ∙ h
 

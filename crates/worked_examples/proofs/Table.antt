@@ -2,6 +2,7 @@
 use Prim.Native.Nat.{ℕ, _+_}
 use mathlib.Core.Path.{_≡_, refl, ap, _∙_}
 use mathlib.Core.Bool.{false, cond}
+use mathlib.Core.List.{[], _∷_}
 use lib.Dec.{T, leb, lit≤}
 use lib.IntN.{ℤ, pos, negsuc}
 use Rattle.refusal.specs.Outcome.{value, refused}
@@ -10,10 +11,12 @@ use Rattle.calendar.specs.Range.{firstCount, lastCount}
 use Rattle.calendar.specs.Gregorian.{dateOf}
 use Rattle.calendar.specs.Count.{dateOfCount, weekday}
 use Rattle.calendar.specs.Answers.{civilAnswer, weekdayAnswer}
-use Rattle.calendar.specs.Closed.{cycle, leapDay, leapℕ, leaps, start, monthDays, before, dayNumber, public}
+use Rattle.calendar.specs.Closed.{cycle, baseYear, leapDay, leapℕ, leaps, start, monthDays, before, dayNumber, public}
 use Rattle.calendar.proofs.Laws.{date-at}
-use Rattle.instant.specs.Instant.{dayOf}
-use Rattle.instant.specs.Answers.{dayAnswer}
+use Rattle.instant.specs.Instant.{dayOf, timeOf, fieldsOf, fieldsAt}
+use Rattle.instant.specs.Answers.{dayAnswer, splitAnswer}
+use Rattle.labels.specs.Rfc3339.{numbersText, labelText, instantLabel}
+use Rattle.labels.specs.Webvtt.{positionLabel}
 use Rattle.constants.specs.Difference.{exactQuotient, deviceQuotient, differs}
 use Rattle.constants.specs.Least.{at, leastBelow}
 use Rattle.constants.specs.Limits.{outsideLimits}
@@ -34,43 +37,43 @@ on z y m d month-low month-high day-low day-high e h =
 
 first-row : civilAnswer (negsuc 719527) ≡ value (dateOf (pos 0) (pos 1) (pos 1))
 unfolding dayNumber start leaps leapDay leapℕ before monthDays
-first-row = on (negsuc 719527) 400 1 1 tt tt tt tt refl refl
+first-row = on (negsuc 719527) (since baseYear (pos 0)) 1 1 tt tt tt tt refl refl
 
 leap-day-0-row : civilAnswer (negsuc 719468) ≡ value (dateOf (pos 0) (pos 2) (pos 29))
 unfolding dayNumber start leaps leapDay leapℕ before monthDays
-leap-day-0-row = on (negsuc 719468) 400 2 29 tt tt tt tt refl refl
+leap-day-0-row = on (negsuc 719468) (since baseYear (pos 0)) 2 29 tt tt tt tt refl refl
 
 after-leap-day-0-row : civilAnswer (negsuc 719467) ≡ value (dateOf (pos 0) (pos 3) (pos 1))
 unfolding dayNumber start leaps leapDay leapℕ before monthDays
-after-leap-day-0-row = on (negsuc 719467) 400 3 1 tt tt tt tt refl refl
+after-leap-day-0-row = on (negsuc 719467) (since baseYear (pos 0)) 3 1 tt tt tt tt refl refl
 
 february-1900-row : civilAnswer (negsuc 25508) ≡ value (dateOf (pos 1900) (pos 2) (pos 28))
 unfolding dayNumber start leaps leapDay leapℕ before monthDays
-february-1900-row = on (negsuc 25508) 2300 2 28 tt tt tt tt refl refl
+february-1900-row = on (negsuc 25508) (since baseYear (pos 1900)) 2 28 tt tt tt tt refl refl
 
 march-1900-row : civilAnswer (negsuc 25507) ≡ value (dateOf (pos 1900) (pos 3) (pos 1))
 unfolding dayNumber start leaps leapDay leapℕ before monthDays
-march-1900-row = on (negsuc 25507) 2300 3 1 tt tt tt tt refl refl
+march-1900-row = on (negsuc 25507) (since baseYear (pos 1900)) 3 1 tt tt tt tt refl refl
 
 before-epoch-row : civilAnswer (negsuc 0) ≡ value (dateOf (pos 1969) (pos 12) (pos 31))
 unfolding dayNumber start leaps leapDay leapℕ before monthDays
-before-epoch-row = on (negsuc 0) 2369 12 31 tt tt tt tt refl refl
+before-epoch-row = on (negsuc 0) (since baseYear (pos 1969)) 12 31 tt tt tt tt refl refl
 
 leap-day-2000-row : civilAnswer (pos 11016) ≡ value (dateOf (pos 2000) (pos 2) (pos 29))
 unfolding dayNumber start leaps leapDay leapℕ before monthDays
-leap-day-2000-row = on (pos 11016) 2400 2 29 tt tt tt tt refl refl
+leap-day-2000-row = on (pos 11016) (since baseYear (pos 2000)) 2 29 tt tt tt tt refl refl
 
 february-2100-row : civilAnswer (pos 47540) ≡ value (dateOf (pos 2100) (pos 2) (pos 28))
 unfolding dayNumber start leaps leapDay leapℕ before monthDays
-february-2100-row = on (pos 47540) 2500 2 28 tt tt tt tt refl refl
+february-2100-row = on (pos 47540) (since baseYear (pos 2100)) 2 28 tt tt tt tt refl refl
 
 march-2100-row : civilAnswer (pos 47541) ≡ value (dateOf (pos 2100) (pos 3) (pos 1))
 unfolding dayNumber start leaps leapDay leapℕ before monthDays
-march-2100-row = on (pos 47541) 2500 3 1 tt tt tt tt refl refl
+march-2100-row = on (pos 47541) (since baseYear (pos 2100)) 3 1 tt tt tt tt refl refl
 
 last-row : civilAnswer (pos 2932896) ≡ value (dateOf (pos 9999) (pos 12) (pos 31))
 unfolding dayNumber start leaps leapDay leapℕ before monthDays
-last-row = on (pos 2932896) 10399 12 31 tt tt tt tt refl refl
+last-row = on (pos 2932896) (since baseYear (pos 9999)) 12 31 tt tt tt tt refl refl
 
 -- each n up to the difference is asked
 tenth-row : differenceAnswer (pos 1) (pos 0) (pos 10) (pos 26) (pos 0) (pos 8) (pos 0) (pos 4294967295) ≡ value (at 69)
@@ -89,7 +92,7 @@ month-row : differenceAnswer (pos 5) (pos 461) (pos 153) (pos 2141) (pos 197913)
 unfolding outsideLimits difference differs exactQuotient deviceQuotient leastBelow
 month-row = found-early (pos 5) (pos 461) (pos 153) (pos 2141) (pos 197913) (pos 16) (pos 0) (pos 4294967295) refl 735 734 refl (lit≤ tt)
 
-pub record Table : Type 0 where
+pub record StarredRows : Type 0 where
   pub first : (civilAnswer (negsuc 719527) ≡ value (dateOf (pos 0) (pos 1) (pos 1))) × (weekdayAnswer (negsuc 719527) ≡ value (pos 6))
   pub leap-day-0 : civilAnswer (negsuc 719468) ≡ value (dateOf (pos 0) (pos 2) (pos 29))
   pub after-leap-day-0 : civilAnswer (negsuc 719467) ≡ value (dateOf (pos 0) (pos 3) (pos 1))
@@ -108,7 +111,7 @@ pub record Table : Type 0 where
   pub tenth-too-small : differenceAnswer (pos 1) (pos 0) (pos 10) (pos 25) (pos 0) (pos 8) (pos 0) (pos 4294967295) ≡ value (at 10)
   pub month : differenceAnswer (pos 5) (pos 461) (pos 153) (pos 2141) (pos 197913) (pos 16) (pos 0) (pos 4294967295) ≡ value (at 734)
 
-pub table : Table
+pub table : StarredRows
 unfolding dayAnswer dayOf weekdayAnswer weekday
 table =
     record {
@@ -129,3 +132,24 @@ table =
       tenth-too-small = tenth-too-small-row;
       month = month-row;
     }
+
+-- ---- two of the other rows, so that the order of a label's fields is shown of the definitions too
+
+day-19487 : dateOfCount (pos 19487) ≡ dateOf (pos 2023) (pos 5) (pos 10)
+unfolding dateOfCount dayNumber start leaps leapDay leapℕ before monthDays
+day-19487 =
+    date-at (since firstCount (pos 19487)) (since baseYear (pos 2023)) 5 10
+    (record { month-low = lit≤ tt; month-high = lit≤ tt; day-low = lit≤ tt; day-high = lit≤ tt })
+    refl
+
+-- `2023-05-10T14:30:00.000Z`
+pub instant-label-row :
+    instantLabel (pos 1683729000000)
+    ≡ value (50 ∷ 48 ∷ 50 ∷ 51 ∷ 45 ∷ 48 ∷ 53 ∷ 45 ∷ 49 ∷ 48 ∷ 84 ∷ 49 ∷ 52 ∷ 58 ∷ 51 ∷ 48 ∷ 58 ∷ 48 ∷ 48 ∷ 46 ∷ 48 ∷ 48 ∷ 48 ∷ 90 ∷ [])
+unfolding instantLabel splitAnswer fieldsOf fieldsAt dayOf timeOf numbersText
+instant-label-row = ap (λ d. value (labelText (fieldsAt d (timeOf (pos 1683729000000))))) day-19487
+
+-- `1191:02:47.296`
+pub position-label-row : positionLabel (pos 4287767296) ≡ value (49 ∷ 49 ∷ 57 ∷ 49 ∷ 58 ∷ 48 ∷ 50 ∷ 58 ∷ 52 ∷ 55 ∷ 46 ∷ 50 ∷ 57 ∷ 54 ∷ [])
+unfolding positionLabel
+position-label-row = refl

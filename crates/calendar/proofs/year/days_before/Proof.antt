@@ -1,4 +1,5 @@
-use Rattle.calendar.proofs.Months.{table-rule, days-before}
+use Rattle.calendar.specs.Gregorian.{daysBefore}
+use Rattle.calendar.proofs.Months.{table-entry}
 use native.Mathlib.Omega.{arith}
 use borrow.Author.Needs.{needs}
 use Rattle.calendar.proofs.year.days_before.Statement.{statement}
@@ -17,12 +18,12 @@ array-read-result : tie.Need-array-read-result
 array-read-result c = search needs
 
 cast-result : tie.Need-cast-result
-unfolding days-before
-cast-result c = let r = table-rule (c .args .m) (omega arith) (omega arith) in record { fits = omega (arith, r .0, r .1) }
+unfolding daysBefore
+cast-result c = let r = table-entry (c .args .m) (omega arith) (omega arith) in record { fits = omega (arith, r .0, r .1) }
 
 returns : tie.Need-returns
-unfolding days-before
-returns c = let r = table-rule (c .args .m) (omega arith) (omega arith) in (r .0, omega (arith, r .0, r .1))
+unfolding daysBefore
+returns c = let r = table-entry (c .args .m) (omega arith) (omega arith) in (r .0, omega (arith, r .0, r .1))
 
 pub days-before-spec : {M : Type 1} → statement M
 days-before-spec =

@@ -1,0 +1,17 @@
+// Where the code counts from: one cycle of the calendar before the first year, so that nothing inside is below zero.
+
+use super::range::FIRST_COUNT;
+use super::range::FIRST_YEAR;
+
+// The years after which the calendar repeats itself, and their days.
+const CYCLE_YEARS: i64 = 400;
+
+pub const CYCLE: u32 = 146097;
+
+pub const BASE_YEAR: i64 = FIRST_YEAR - CYCLE_YEARS;
+
+// The count of the first day of BASE_YEAR.
+pub const BASE_COUNT: i64 = FIRST_COUNT - CYCLE as i64;
+
+// The weekday of the first day of the range: day 0 is Thursday, 4.
+pub const FIRST_WEEKDAY: u32 = ((FIRST_COUNT % 7 + 7 + 4) % 7) as u32;
