@@ -51,7 +51,7 @@ fn try_reading(label: &[u8]) {
 }
 
 fn try_position(position: i64) {
-    let mut label = [b'?'; 24];
+    let mut label = [b'?'; POSITION_LABEL_BYTES + 1];
     let mut expected = label;
     let written = answer(write_position(position, &mut label));
     assert_eq!(written, plain::write_position(position, &mut expected), "{position}");

@@ -1,4 +1,4 @@
--- Only for the proofs: allowed constants as natural numbers, and what was defined of plain numbers, of a set of them.
+-- For proofs and private contracts only: allowed constants as natural numbers, and what was defined of plain numbers, of a set of them.
 use Prim.Native.Nat.{ℕ, _≤_, _<_}
 use lib.IntN.{ℤ, pos, natAbs}
 use mathlib.Core.Bool.{true, false, _||_}

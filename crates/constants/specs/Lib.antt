@@ -3,7 +3,7 @@ pub mod Difference
 pub mod Least
 pub mod Limits
 pub mod Answers
--- What only the proofs need.
+-- What only proofs and private contracts need.
 pub mod Allowed
 pub mod Stairs
 pub mod Residues

@@ -1,4 +1,4 @@
--- Only for the proofs: a side of the difference, and the gaps of the residues modulo d.
+-- For proofs and private contracts only: a side of the difference, and the gaps of the residues modulo d.
 use Prim.Native.Nat.{ℕ, _+_, _-_, _*_, _/_, _%_, _^_, _≤_, _<_}
 use mathlib.Core.Bool.{Bool, cond}
 use Rattle.constants.specs.declared.limits.Constants.{Constants}

@@ -1,4 +1,4 @@
--- Only for the proofs: a line against a staircase, in the words of stairs.rt.
+-- For proofs and private contracts only: a line against a staircase, in the words of stairs.rt.
 use Prim.Native.Nat.{ℕ, _+_, _-_, _*_, _/_, _^_, _≤_, _<_}
 
 -- the staircase's steps at x

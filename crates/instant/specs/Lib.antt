@@ -1,4 +1,6 @@
+-- What a reader has to believe: the answers, and what they are made of.
 pub mod Units
 pub mod Instant
 pub mod Answers
+-- What only proofs and private contracts need.
 pub mod Checked

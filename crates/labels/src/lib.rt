@@ -3,6 +3,8 @@
 //     rfc3339::write_instant(instant, out)       bytes written       refusals 4, then 7
 //     rfc3339::read_instant(label)               instant             refusals 8, then 2, 3, 5
 //     webvtt::write_position(position, out)      bytes written       refusals 6, then 7
+//
+// `rfc3339::LENGTH` is the number of bytes of an instant's label.
 
 use refusal::Refusal;
 

@@ -39,7 +39,7 @@ const FRACTION: [u8; 7] = [POINT, b'0', b'0', b'0', b'0', b'0', b'0'];
 // How many decimals the seconds have, and how many bytes a label has.
 const DECIMALS: usize = 3;
 
-const LENGTH: usize = 21 + DECIMALS;
+pub const LENGTH: usize = 21 + DECIMALS;
 
 // The byte at which the time begins.
 const TIME: usize = 10;

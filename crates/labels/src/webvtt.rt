@@ -60,6 +60,7 @@ fn put_hours(out: &mut [u8], hours: u32, count: usize)
         );
         return;
     }
+    // Five digits and the colon, of which the digits that are too many are shifted out.
     let text = COLON as u64 * 0x100_0000_0000
         + digits::four(hours % 10000) * 256
         + (ZERO + hours / 10000) as u64;

@@ -6,6 +6,7 @@ use super::show::number_answer;
 use super::show::refused;
 use super::show::text;
 use labels::WriteAnswer;
+use labels::rfc3339::LENGTH;
 
 pub fn run() {
     written(1683729000000);
@@ -32,7 +33,7 @@ fn written(instant: i64) {
     text(b"instant ");
     number(instant);
     text(b": label ");
-    let mut out = [b'?'; 24];
+    let mut out = [b'?'; LENGTH];
     let answer = labels::rfc3339::write_instant(instant, &mut out);
     written_answer(answer);
     text(b" ");
