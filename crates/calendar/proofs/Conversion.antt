@@ -15,7 +15,7 @@ use Rattle.calendar.specs.Gregorian.{dateOf, dateAfter}
 use Rattle.calendar.specs.Closed.{cycle, fromYear, baseYear, lastDay, firstFromMarch, leapDay, leaps, start, before, Valid, InRange, dayNumber, public, newYear, fromMarch, beforeMarch}
 use Rattle.calendar.proofs.Leap.{leaps-step, leaps-next}
 use Rattle.calendar.proofs.Months.{before-early, before-late}
-use Rattle.calendar.proofs.Steps.{count-in-range}
+use Rattle.calendar.proofs.Steps.{number-in-range}
 use Rattle.calendar.proofs.March.{centuryOf, dayOfCentury, yearOfCentury, dayOfMarchYear, century-sum, algorithm-3}
 
 -- a date of natural numbers as the machine makes it
@@ -137,5 +137,5 @@ pub day-number :
     (daySum y m b d ≡ dayNumber y m d) × ((cycle ≤ daySum y m b d) × (daySum y m b d ≤ cycle + lastDay))
 day-number y m d b r e =
     let s = algorithm-4 y m d b (r .is-valid) (r .from) e in
-    let c = count-in-range y m d r in
+    let c = number-in-range y m d r in
     (s, (subst (λ n. cycle ≤ n) (sym s) (c .0), subst (λ n. n ≤ cycle + lastDay) (sym s) (c .1)))

@@ -24,7 +24,7 @@ use Rattle.calendar.specs.Checked.{checkedOutcome}
 use Rattle.calendar.specs.Closed.{baseYear, baseCount, cycle, lastDay, leapDay, monthDays, before, Valid, InRange, dayNumber, public}
 use Rattle.calendar.proofs.Leap.{leap-le}
 use Rattle.calendar.proofs.Months.{length-le, length-public, before-public}
-use Rattle.calendar.proofs.Steps.{found, count-in-range, count-after}
+use Rattle.calendar.proofs.Steps.{found, number-in-range, count-after}
 use Rattle.calendar.proofs.Years.{year-is, year-from, year-to}
 use Rattle.calendar.proofs.Tests.{month-accepted, day-decides, accepted-valid, accepted-is, accepted-answer, date-refused, of-read}
 
@@ -66,11 +66,11 @@ module _ (y m d : ℕ) (r : InRange y m d) where
 
   pub offset-le : offset ≤ lastDay
   unfolding offset
-  offset-le = omega (arith, count-in-range y m d r .1)
+  offset-le = omega (arith, number-in-range y m d r .1)
 
   offset-is : dayNumber y m d ≡ cycle + offset
   unfolding offset
-  offset-is = omega (arith, count-in-range y m d r .0)
+  offset-is = omega (arith, number-in-range y m d r .0)
 
   pub date-is : dateAfter offset ≡ public y m d
   date-is = found offset y m d (r .is-valid) offset-is

@@ -215,7 +215,7 @@ day-of-year-is-in-range d v =
     ∙ inside-pos 1 (365 + l) (before l (t .m) + t .d) (omega (arith, w .day-low))
     (omega (arith, within-year l (t .m) (t .d) (w .month-low) (w .month-high) (w .day-low) (w .day-high)))
 
--- the rule of the table of days before each month: the lengths of the months before it
+-- the rule of the table of days before each month: the sum of the lengths of the months before it
 pub table-rule : (m : ℕ) → 1 ≤ m → m ≤ 12 → getD daysBefore (m - 1) 0 ≡ sum (take (m - 1) (monthLengths false))
 table-rule = table-sum
 

@@ -141,8 +141,8 @@ found n y m d v e =
     a .is ∙ unique (a .year) (a .month) (a .day) y m d (a .is-valid) v (a .number ∙ sym e)
 
 -- a date stands at one number
-count-public : (y m d y′ m′ d′ : ℕ) → public y m d ≡ public y′ m′ d′ → dayNumber y m d ≡ dayNumber y′ m′ d′
-count-public y m d y′ m′ d′ e =
+number-public : (y m d y′ m′ d′ : ℕ) → public y m d ≡ public y′ m′ d′ → dayNumber y m d ≡ dayNumber y′ m′ d′
+number-public y m d y′ m′ d′ e =
     let p = add-injective baseYear y y′ (ap (λ (d : Date). d .year) e) in
     let q = ap (λ (d : Date). natAbs (d .month)) e in
     let r = ap (λ (d : Date). natAbs (d .day)) e in
@@ -152,7 +152,7 @@ pub one-number : (a b : ℕ) → dateAfter a ≡ dateAfter b → a ≡ b
 one-number a b e =
     let x = at a in
     let y = at b in
-    let c = count-public (x .year) (x .month) (x .day) (y .year) (y .month) (y .day) (sym (x .is) ∙ e ∙ y .is) in
+    let c = number-public (x .year) (x .month) (x .day) (y .year) (y .month) (y .day) (sym (x .is) ∙ e ∙ y .is) in
     omega (arith, x .number, y .number)
 
 -- counting day by day
@@ -204,8 +204,8 @@ start-end : start (toYear + 1) ≡ cycle + (lastDay + 1)
 unfolding start leaps
 start-end = refl
 
-pub count-in-range : (y m d : ℕ) → InRange y m d → (cycle ≤ dayNumber y m d) × (dayNumber y m d ≤ cycle + lastDay)
-count-in-range y m d r =
+pub number-in-range : (y m d : ℕ) → InRange y m d → (cycle ≤ dayNumber y m d) × (dayNumber y m d ≤ cycle + lastDay)
+number-in-range y m d r =
     let w = within y m d (r .is-valid) in (
       omega (arith, start-first, start-monotone fromYear y (r .from), w .0),
       omega (arith, start-end, start-monotone (y + 1) (toYear + 1) (omega (arith, r .to)), w .1),

@@ -23,7 +23,7 @@ leapYear y = divides 4 y && not (divides 100 y && not (divides 400 y))
 unfoldable pub monthLengths : (leap : Bool) → List ℕ
 monthLengths leap = 31 ∷ cond leap 29 28 ∷ 31 ∷ 30 ∷ 31 ∷ 30 ∷ 31 ∷ 31 ∷ 30 ∷ 31 ∷ 30 ∷ 31 ∷ []
 
--- the days before each month in a common year: document 01's table, whose rule is `table-rule`
+-- the days before each month in a common year: document 01's table, which the code has; its rule is `table-rule`
 unfoldable pub daysBefore : List ℕ
 daysBefore = 0 ∷ 31 ∷ 59 ∷ 90 ∷ 120 ∷ 151 ∷ 181 ∷ 212 ∷ 243 ∷ 273 ∷ 304 ∷ 334 ∷ []
 

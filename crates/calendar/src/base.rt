@@ -1,4 +1,5 @@
-// Where the code counts from: one cycle of the calendar before the first year, so that nothing inside is below zero.
+// Where the code counts from: years and days from one cycle of the calendar before the first year, so that nothing inside is below
+// zero, and weekdays from that of the first day.
 
 use super::range::FIRST_COUNT;
 use super::range::FIRST_YEAR;

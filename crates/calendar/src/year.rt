@@ -1,7 +1,9 @@
 // The leap rule and the days before each month, of years that are counted from BASE_YEAR, a multiple of 400.
 
 ghost use mathlib.Core.Path.{_≡_};
-ghost use Prim.Native.Nat.{_≤_, _%_};
+ghost use Prim.Native.Nat.{_-_, _≤_, _%_};
+ghost use lib.ListN.{getD};
+ghost use Rattle.calendar.specs.Gregorian.{daysBefore};
 ghost use Rattle.calendar.specs.Closed.{leapDay, before, fromMarch};
 
 // Days before each month in a common year: document 01, "Calendar rules".
@@ -28,7 +30,7 @@ fn leap_rest(y: u32) -> u32
 // The days before month m in a common year.
 pub fn days_before(m: u32) -> u32
     requires { ⌜ (1 ≤ m) × (m ≤ 12) ⌝ }
-    ensures { λ r. ⌜ (r ≡ before 0 m) × (r ≤ 334) ⌝ }
+    ensures { λ r. ⌜ (r ≡ getD daysBefore (m - 1) 0) × (r ≤ 334) ⌝ }
 {
     let at = (m - 1) as usize;
     DAYS_BEFORE[at] as u32

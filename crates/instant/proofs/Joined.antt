@@ -66,14 +66,14 @@ module _ (hour minute second fraction : ℤ) where
 -- an accepted date and an accepted time, in locals
 pub record Both (year month day hour minute second fraction count time : ℤ) : Type 0 where
   pub days : value count ≡ daysAnswer year month day
-  pub clock : value time ≡ timeAnswer hour minute second fraction
+  pub time-told : value time ≡ timeAnswer hour minute second fraction
   pub count-fits : SFits w64 count
   pub time-fits : SFits w64 time
 
 -- what the product and the sum ask, and what they are
 module _ {year month day hour minute second fraction count time : ℤ} (b : Both year month day hour minute second fraction count time) where
   not-bad : badTime hour minute second fraction ≡ false
-  not-bad = time-accepted hour minute second fraction time (b .clock) .0
+  not-bad = time-accepted hour minute second fraction time (b .time-told) .0
 
   in-range : outside firstCount lastCount count ≡ false
   in-range = days-inside year month day count (b .days)
@@ -84,7 +84,7 @@ module _ {year month day hour minute second fraction count time : ℤ} (b : Both
   sum-is : read (read count *ℤ pos perDay) +ℤ read time ≡ count *ℤ pos perDay +ℤ timeOfFields hour minute second fraction
   sum-is =
       ap₂ _+ℤ_ (toZ-ofZ multiplies ∙ ap (λ (y : ℤ). y *ℤ pos perDay) (toZ-ofZ (b .count-fits)))
-      (toZ-ofZ (b .time-fits) ∙ time-accepted hour minute second fraction time (b .clock) .1)
+      (toZ-ofZ (b .time-fits) ∙ time-accepted hour minute second fraction time (b .time-told) .1)
 
   pub adds : SFits w64 (read (read count *ℤ pos perDay) +ℤ read time)
   adds =

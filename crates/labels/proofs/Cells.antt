@@ -1,5 +1,5 @@
--- The digits of several numbers below 100 at once. The numbers stand apart in one number, 16 bits for a pair of digits and 8 for a mark, and 103 / 1024 of all of
--- them gives the tens of each.
+-- The digits of several numbers below 100 at once. The numbers stand apart in one number, 16 bits for a pair of digits and 8 for a
+-- mark, and 103 / 1024 of all of them gives the tens of each.
 use Prim.Native.Nat.{ℕ, _+_, _-_, _*_, _/_, _%_, _≤_, _<_}
 use mathlib.Core.Path.{_≡_, refl, ap, ap₂, _∙_}
 use mathlib.Core.List.{List, [], _∷_, _++_}

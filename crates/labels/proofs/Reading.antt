@@ -89,7 +89,7 @@ module _ (label : List ℕ) where
 
 -- ---- the time
 
--- the shape of a time: a mark, the clock, the point and the decimals, and a mark at the end
+-- the shape of a time: a mark, `HH:MM:SS`, the point and the decimals, and a mark at the end
 module _ (count : ℕ) (part : List ℕ) (l : length part ≡ 11 + count) where
   last-mark : fits (letterZ ∷ []) (drop (10 + count) part) ≡ fitsOne letterZ (getD part (10 + count) 0)
   last-mark =
@@ -118,7 +118,7 @@ module _ (count : ℕ) (part : List ℕ) (l : length part ≡ 11 + count) where
 
   pub record TimeFits : Type 0 where
     pub first-mark : fitsOne letterT (getD part 0 0) ≡ true
-    pub clock-fits : fits toSecondShape (partOf 1 8 part) ≡ true
+    pub to-second-fits : fits toSecondShape (partOf 1 8 part) ≡ true
     pub fraction-fits : fits (fractionShape count) (partOf 9 (1 + count) part) ≡ true
     pub last-mark-fits : fitsOne letterZ (getD part (10 + count) 0) ≡ true
 
@@ -129,7 +129,7 @@ module _ (count : ℕ) (part : List ℕ) (l : length part ≡ 11 + count) where
       let c = and-right (fits toSecondShape (partOf 1 8 part)) _ b in
       record {
         first-mark = and-left (fitsOne letterT (getD part 0 0)) _ a;
-        clock-fits = and-left (fits toSecondShape (partOf 1 8 part)) _ b;
+        to-second-fits = and-left (fits toSecondShape (partOf 1 8 part)) _ b;
         fraction-fits = and-left (fits (fractionShape count) (partOf 9 (1 + count) part)) _ c;
         last-mark-fits = and-right (fits (fractionShape count) (partOf 9 (1 + count) part)) _ c;
       }
@@ -152,10 +152,10 @@ module _ (count : ℕ) (part : List ℕ) (l : length part ≡ 11 + count) where
       ∙ mark-number point (getD part 9 0) count (partOf 10 count part) refl (part-length 10 count part (omega arith)) (subst (λ t. ValuesRead (fractionShape count) t v) p r)
 
   pub time-read :
-      (year month day clock f : ℕ) → fitsOne letterT (getD part 0 0) ≡ true → fitsOne letterZ (getD part (10 + count) 0) ≡ true →
-      ValuesRead toSecondShape (partOf 1 8 part) clock → ValuesRead (fractionShape count) (partOf 9 (1 + count) part) f →
-      joined year month day (pairOf clock 0) (pairOf clock 3) (pairOf clock 6) (numberOf f (1 + count)) ≡ readTime year month day count part
-  time-read year month day clock f t z r q =
+      (year month day time f : ℕ) → fitsOne letterT (getD part 0 0) ≡ true → fitsOne letterZ (getD part (10 + count) 0) ≡ true →
+      ValuesRead toSecondShape (partOf 1 8 part) time → ValuesRead (fractionShape count) (partOf 9 (1 + count) part) f →
+      joined year month day (pairOf time 0) (pairOf time 3) (pairOf time 6) (numberOf f (1 + count)) ≡ readTime year month day count part
+  time-read year month day time f t z r q =
       let e = sym (part-length 1 8 part (omega arith)) in
       let hour = r .pair-is 0 (omega arith) e refl refl ∙ part-number part 8 1 0 (omega arith) (omega arith) in
       let minute = r .pair-is 3 (omega arith) e refl refl ∙ part-number part 8 1 3 (omega arith) (omega arith) in

@@ -45,7 +45,7 @@ pub fn write_position(position: i64, out: &mut [u8]) -> WriteAnswer
     WriteAnswer::Written(length)
 }
 
-// Writes the digits of the hours and a colon. Bytes behind them, up to byte 8, may change.
+// Writes the digits of the hours and a colon. Bytes behind them and before byte 8 may change.
 fn put_hours(out: &mut [u8], hours: u32, count: usize)
     requires { ⌜ ((hours < 100000) × (count ≡ hourDigits hours)) × (8 ≤ length (now out)) ⌝ }
     ensures { λ r. ⌜ Begins (digits hours count ++ colon ∷ []) 8 (now (out .entry)) (now (out .exit)) ⌝ }

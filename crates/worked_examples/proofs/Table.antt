@@ -1,4 +1,5 @@
--- The starred rows of document 01, "Numbers to try", as one checked table of theorems about the definitions.
+-- The starred rows of document 01, "Numbers to try", as one checked table of theorems about the definitions; then two labels of the
+-- other rows.
 use Prim.Native.Nat.{ℕ, _+_}
 use mathlib.Core.Path.{_≡_, refl, ap, _∙_}
 use mathlib.Core.Bool.{false, cond}

@@ -47,7 +47,7 @@ both : (c : tie.After-known-told2) → let k = c .before .before .before in
 both c = let k = c .before .before .before in
     record {
       days = days-of k;
-      clock = ap numberOutcome (sym (c .before .time .given .1)) ∙ time-of k;
+      time-told = ap numberOutcome (sym (c .before .time .given .1)) ∙ time-of k;
       count-fits = search needs;
       time-fits = search needs;
     }

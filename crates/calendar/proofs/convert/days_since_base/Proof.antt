@@ -1,3 +1,5 @@
+use mathlib.Core.Path.{_∙_}
+use Rattle.calendar.proofs.Months.{table-entry}
 use Rattle.calendar.proofs.Conversion.{before-march-le, day-number}
 use native.Mathlib.Omega.{arith}
 use borrow.Author.Needs.{needs}
@@ -30,10 +32,14 @@ add-result-3 c = search needs
 
 add-result-4 : tie.Need-add-result-4
 add-result-4 c = let a = c .before .args in
-    record { fits = omega (arith, day-number (a .y) (a .m) (a .d) (c .days-before .result) (c .before .pre) (c .days-before .ensures .0) .1 .1) }
+    let v = c .before .pre .is-valid in
+    let b = c .days-before .ensures .0 ∙ table-entry (a .m) (v .month-low) (v .month-high) .0 in
+    record { fits = omega (arith, day-number (a .y) (a .m) (a .d) (c .days-before .result) (c .before .pre) b .1 .1) }
 
 returns : tie.Need-returns
-returns c = let a = c .before .args in day-number (a .y) (a .m) (a .d) (c .days-before .result) (c .before .pre) (c .days-before .ensures .0)
+returns c = let a = c .before .args in
+    let v = c .before .pre .is-valid in
+    day-number (a .y) (a .m) (a .d) (c .days-before .result) (c .before .pre) (c .days-before .ensures .0 ∙ table-entry (a .m) (v .month-low) (v .month-high) .0)
 
 pub days-since-base-spec : {M : Type 1} → statement M
 days-since-base-spec =

@@ -1,5 +1,6 @@
 use Rattle.calendar.specs.Gregorian.{daysBefore}
 use Rattle.calendar.proofs.Months.{table-entry}
+use mathlib.Core.Path.{refl}
 use native.Mathlib.Omega.{arith}
 use borrow.Author.Needs.{needs}
 use Rattle.calendar.proofs.year.days_before.Statement.{statement}
@@ -23,7 +24,7 @@ cast-result c = let r = table-entry (c .args .m) (omega arith) (omega arith) in 
 
 returns : tie.Need-returns
 unfolding daysBefore
-returns c = let r = table-entry (c .args .m) (omega arith) (omega arith) in (r .0, omega (arith, r .0, r .1))
+returns c = let r = table-entry (c .args .m) (omega arith) (omega arith) in (refl, omega (arith, r .0, r .1))
 
 pub days-before-spec : {M : Type 1} → statement M
 days-before-spec =

@@ -1,5 +1,5 @@
 use Rattle.calendar.proofs.Leap.{tested-leap-le}
-use Rattle.calendar.proofs.Months.{before-leap}
+use Rattle.calendar.proofs.Months.{table-entry, before-leap}
 use Rattle.calendar.specs.Closed.{leapDay}
 use mir.Val.{boolByte}
 use lib.Dec.{ltb}
@@ -31,7 +31,7 @@ add-result c = record { fits = omega (arith, small c, c .before .days-before .en
 returns : tie.Need-returns
 returns c = let a = c .before .before .args in
     let p = c .before .before .pre in (
-      ap₂ (λ b l. b + boolByte (ltb 2 (a .m)) * l) (c .before .days-before .ensures .0) (c .leap-day .ensures .0)
+      ap₂ (λ b l. b + boolByte (ltb 2 (a .m)) * l) (c .before .days-before .ensures .0 ∙ table-entry (a .m) (p .0) (p .1) .0) (c .leap-day .ensures .0)
           ∙ before-leap (leapDay (a .y)) (a .m) (p .0) (p .1),
       omega (arith, small c, c .before .days-before .ensures .1),
     )

@@ -61,7 +61,7 @@ returns-3 c =
     let s = c .before .before .before .before .before .before .before .before .before .before in
     let a = s .args in
     c .malformed3 .ensures ∙ no-time (a .decimals) (a .part .now) (s .pre .1) (a .year) (a .month) (a .day)
-    (λ t. no-both _ (t .clock-fits) (values-malformed toSecondShape (partOf 1 8 (a .part .now)) (sym (c .before .enum-told .given .1) ∙ c .before .before .before .read-values .ensures)))
+    (λ t. no-both _ (t .to-second-fits) (values-malformed toSecondShape (partOf 1 8 (a .part .now)) (sym (c .before .enum-told .given .1) ∙ c .before .before .before .read-values .ensures)))
 
 add-t19 : tie.Need-add-t19
 add-t19 c = search needs

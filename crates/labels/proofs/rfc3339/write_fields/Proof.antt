@@ -1,6 +1,5 @@
 use mathlib.Core.Path.{sym, ap, _∙_}
 use native.Mathlib.Omega.{arith}
-use borrow.Author.Needs.{needs}
 use lib.Dec.{lit<}
 use Rattle.labels.specs.Rfc3339.{decimals, labelText}
 use Rattle.labels.specs.Filled.{filled}
