@@ -59,14 +59,14 @@ module _ {shape text : List ℕ} {v m : ℕ} (w : Compared shape text v m) where
       go true e = absurd (never e)
       go false e = refl
 
-  settled : bitAnd v m ≡ 0 → AllSettled shape text
-  settled e = all-settle shape text (w .sizes) (sym (ap₂ bitAnd (w .as-gaps) (w .m-is)) ∙ e)
+  all-clear : bitAnd v m ≡ 0 → AllSettled shape text
+  all-clear e = all-settle shape text (w .sizes) (sym (ap₂ bitAnd (w .as-gaps) (w .m-is)) ∙ e)
 
   pub unsettled : (bitAnd v m ≡ 0 → ⊥) → Malformed ≡ readValues shape text
   unsettled never = unless (λ f. never (ap₂ bitAnd (w .as-gaps) (w .m-is) ∙ all-fit shape text (w .sizes) f .all-settled))
 
   pub gaps-small : bitAnd v m ≡ 0 → v < 2 ^ 60
-  gaps-small e = omega (arith, w .as-gaps, word-le 15 (gaps shape text) 8 few (settled e .gaps-le))
+  gaps-small e = omega (arith, w .as-gaps, word-le 15 (gaps shape text) 8 few (all-clear e .gaps-le))
 
   pub no-digits : (bitAnd (v + sixes) high-bits ≡ 0 → ⊥) → Malformed ≡ readValues shape text
   no-digits never =
@@ -80,7 +80,7 @@ module _ {shape text : List ℕ} {v m : ℕ} (w : Compared shape text v m) where
   pub all-digits :
       bitAnd v m ≡ 0 → bitAnd (v + sixes) high-bits ≡ 0 → Read v ≡ readValues shape text
   all-digits e z =
-      let s = settled e in
+      let s = all-clear e in
       let n = high-nines (gaps shape text) 8 few (s .gaps-le) (sym (ap (λ v. bitAnd (v + sixes) high-bits) (w .as-gaps)) ∙ z) in
       let f = s .fit-if n in
       let r = all-fit shape text (w .sizes) f in
