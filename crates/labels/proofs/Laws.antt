@@ -204,7 +204,7 @@ label-bytes = refl
 year-inside : (label : List ℕ) → fits (dateShape ++ timeShape decimals) label ≡ true → outside firstYear lastYear (pos (numberAt 0 4 label)) ≡ false
 year-inside label h =
     let b = number-below (numberAt 0 4 label) 4 in
-    inside-pos 0 9999 (numberAt 0 4 label) (omega arith) (omega (arith, ap (numberAt 0 4) (label-back label h)))
+    inside-pos 0 (natAbs lastYear) (numberAt 0 4 label) (omega arith) (omega (arith, ap (numberAt 0 4) (label-back label h)))
 
 -- the refusals of fields, one after the other
 by-refusal :
