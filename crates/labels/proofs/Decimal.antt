@@ -1,7 +1,7 @@
 -- Numbers and their digits.
 use Prim.Native.Nat.{ℕ, zero, suc, _+_, _-_, _*_, _/_, _%_, _^_, _≤_, _<_}
 use mathlib.Core.Path.{_≡_, refl, sym, ap, ap₂, _∙_}
-use mathlib.Core.Bool.{Bool, true, _&&_}
+use mathlib.Core.Bool.{true, _&&_, and-true, and-assoc}
 use mathlib.Core.List.{List, [], _∷_, _++_, append-nil}
 use native.Mathlib.Nat.{pow-suc, pow-le-pow-right}
 use native.Mathlib.Numerals.{add-one}
@@ -12,6 +12,7 @@ use lib.ListN.{length, drop, length-append, drop-of-length-le}
 use lib.Seq.{append-snoc, drop-append-le}
 use Rattle.numbers.proofs.Bools.{and-left, and-right}
 use Rattle.labels.specs.Digits.{digits, numberFrom, number, isDigit}
+use Rattle.labels.specs.Stamps.{allDigits}
 
 -- ---- powers of ten
 
@@ -31,7 +32,7 @@ is-digit n = ap₂ _&&_ (le-leb 48 (48 + n % 10) (omega arith)) (le-leb (48 + n 
 
 -- ---- the number of a number's digits
 
-from-append : (n : ℕ) (a b : List ℕ) → numberFrom n (a ++ b) ≡ numberFrom (numberFrom n a) b
+pub from-append : (n : ℕ) (a b : List ℕ) → numberFrom n (a ++ b) ≡ numberFrom (numberFrom n a) b
 from-append n [] b = refl
 from-append n (d ∷ a) b = from-append (n * 10 + (d - 48)) a b
 
@@ -67,10 +68,6 @@ drop-digits n k (suc count) =
 
 -- ---- the digits of a text's number
 
-abbrev pub allDigits : List ℕ → Bool
-allDigits [] = true
-allDigits (b ∷ bs) = isDigit b && allDigits bs
-
 -- how many digits there are after `text`, if there were `count` before
 abbrev after : (text : List ℕ) (count : ℕ) → ℕ
 after [] count = count
@@ -94,3 +91,8 @@ pub digits-number : (text : List ℕ) (count : ℕ) → length text ≡ count �
 digits-number text count l h =
     let e : count ≡ after text 0 = omega (arith, after-is text 0) in
     ap (digits (number text)) e ∙ digits-from text 0 0 h
+
+-- one more byte behind a text
+pub all-digits-more : (text : List ℕ) (byte : ℕ) → allDigits (text ++ byte ∷ []) ≡ allDigits text && isDigit byte
+all-digits-more [] byte = and-true (isDigit byte)
+all-digits-more (b ∷ bs) byte = ap (λ t. isDigit b && t) (all-digits-more bs byte) ∙ sym (and-assoc (isDigit b) (allDigits bs) (isDigit byte))

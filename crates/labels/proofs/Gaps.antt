@@ -22,7 +22,7 @@ gaps (s ∷ ss) (b ∷ bs) = bitXor b s ∷ gaps ss bs
 abbrev pub Both : (shape text : List ℕ) → Type 0
 Both shape text = (length shape ≡ length text) × (AllLe 255 shape × AllLe 255 text)
 
-rest-both : (s b : ℕ) (ss bs : List ℕ) → Both (s ∷ ss) (b ∷ bs) → Both ss bs
+pub rest-both : (s b : ℕ) (ss bs : List ℕ) → Both (s ∷ ss) (b ∷ bs) → Both ss bs
 rest-both s b ss bs h = (omega (arith, h .0), (h .1 .0 .1, h .1 .1 .1))
 
 pub word-gaps : (shape text : List ℕ) → Both shape text → bitXor (word text) (word shape) ≡ word (gaps shape text)
@@ -79,7 +79,7 @@ all-fit (s ∷ ss) (b ∷ bs) h f =
     }
 
 -- both parts of a number in two parts are 0 where it is
-no-part : (x y : ℕ) → x * 256 + y ≡ 0 → (x ≡ 0) × (y ≡ 0)
+pub no-part : (x y : ℕ) → x * 256 + y ≡ 0 → (x ≡ 0) × (y ≡ 0)
 no-part x y e = (omega arith, omega arith)
 
 pub record AllSettled (shape text : List ℕ) : Type 0 where

@@ -1,20 +1,19 @@
 -- The labels' round trips, lengths and refusals.
-use Prim.Native.Nat.{ℕ, _+_, _-_, _*_, _/_, _%_, _^_, _≤_, _<_}
-use mathlib.Core.Path.{_≡_, refl, sym, ap, ap₂, _∙_}
+use Prim.Native.Nat.{ℕ, _+_, _-_, _/_, _^_, _≤_}
+use mathlib.Core.Path.{_≡_, refl, sym, ap, _∙_}
 use mathlib.Core.Logic.{_↔_}
 use mathlib.Core.Bool.{Bool, true, false, cond}
-use mathlib.Core.List.{List, _∷_, _++_}
-use native.Mathlib.Nat.{div-add-mod', div-div-eq-div-mul, pow-le-pow-right}
+use mathlib.Core.List.{List, _++_}
+use native.Mathlib.Nat.{pow-le-pow-right}
 use native.Mathlib.Omega.{arith}
 use lib.Dec.{ltb, lit<}
 use lib.IntN.{ℤ, pos, natAbs}
-use lib.ListN.{length, getD, take, drop}
-use lib.Seq.{take-at, drop-at}
+use lib.ListN.{length, drop}
 use Rattle.refusal.specs.Outcome.{Outcome, mapValue, value, refused, refusedAt}
 use Rattle.numbers.specs.Range.{outside}
 use Rattle.numbers.proofs.Bools.{no-both}
 use Rattle.numbers.proofs.Between.{natural-within, inside-pos}
-use Rattle.refusal.proofs.Outcomes.{clash, passes, same-value}
+use Rattle.refusal.proofs.Outcomes.{clash, same-value}
 use Rattle.calendar.specs.Range.{firstYear, lastYear}
 use Rattle.calendar.specs.Gregorian.{monthLength, dateOf}
 use Rattle.calendar.specs.Answers.{ofDate}
@@ -22,17 +21,16 @@ use Rattle.instant.specs.Instant.{fieldsOf, timeOfFields, instantAt}
 use Rattle.instant.specs.Answers.{badInstant, badTime, splitAnswer, joinAnswer}
 use Rattle.instant.specs.declared.Fields.{Fields}
 use Rattle.instant.proofs.Laws.{split-join, join-split}
-use Rattle.labels.specs.Clock.{colon}
 use Rattle.labels.specs.Digits.{digits, number, numberAt, fits}
 use Rattle.labels.specs.Rfc3339.{labelLength, decimals, dateText, timeText, numbersText, dateShape, timeShape, labelText, instantLabel, readFields, readAnswer}
 use Rattle.labels.specs.Parts.{HasRoom, NarrowFields}
-use Rattle.labels.specs.Webvtt.{lastPosition, perHour, perMinute, perSecond, hourDigits, clockOf, positionText, positionLabel}
-use Rattle.labels.proofs.Decimal.{number-digits, number-below, length-digits}
-use Rattle.labels.proofs.DigitWords.{place-100, place-1000}
-use Rattle.labels.proofs.Positions.{by-hours, length-position}
+use Rattle.labels.specs.Webvtt.{perHour, positionText, positionLabel}
+use Rattle.labels.proofs.Decimal.{number-digits, number-below}
+use Rattle.labels.proofs.Positions.{length-position}
 use Rattle.labels.proofs.Shapes.{fits-both}
 use Rattle.labels.proofs.Texts.{date-back, time-back, date-fits, time-fits}
 use Rattle.labels.proofs.Instants.{fields-narrow}
+use Rattle.labels.proofs.ReadBack.{position-write-read}
 
 -- ---- positions
 
@@ -48,62 +46,9 @@ position-length n = length-position n ∙ go (ltb (n / perHour) 100) (ltb (n / p
     go false false true = refl
     go false false false = refl
 
--- from 100 hours on the first digit is not 0
-pub no-leading-zero : (n : ℕ) → n ≤ natAbs lastPosition → 100 ≤ n / perHour → getD (positionText n) 0 0 ≡ 48 → ⊥
-no-leading-zero n last many =
-    let h = n / perHour in
-    by-hours (λ w. getD (digits h w ++ colon ∷ clockOf n) 0 0 ≡ 48 → ⊥) h (λ a e. omega arith)
-    (λ a b e. omega (arith, place-100 h)) (λ a b e. omega (arith, place-1000 h)) (λ a e. omega (arith, place-1000 h, div-div-eq-div-mul h 1000 10))
-
--- the position of a label, read from its end
-clockValue : List ℕ → ℕ
-clockValue text = numberAt 0 2 text * perMinute + numberAt 3 2 text * perSecond + numberAt 6 3 text
-
-positionOf : List ℕ → ℕ
-positionOf label = number (take (length label - 10) label) * perHour + clockValue (drop 1 (drop (length label - 10) label))
-
-within-hour : (n : ℕ) → n % perHour % perMinute ≡ n % perMinute
-within-hour n = omega arith
-
-clock-back : (n : ℕ) → clockValue (clockOf n) ≡ n % perHour
-unfolding clockValue
-clock-back n =
-    let m = number-digits (n % perHour / perMinute) 2 (omega arith) in
-    let s = number-digits (n % perMinute / perSecond) 2 (omega arith) in
-    let k = number-digits (n % perSecond) 3 (omega arith) in
-    let e = div-add-mod' (n % perHour) perMinute in
-    let f = div-add-mod' (n % perMinute) perSecond in
-    let g : n % perMinute % perSecond ≡ n % perSecond = omega arith in
-    omega (arith, within-hour n)
-
-position-back : (n : ℕ) → n ≤ natAbs lastPosition → positionOf (positionText n) ≡ n
-unfolding positionOf
-position-back n last =
-    let h = n / perHour in
-    let w = hourDigits h in
-    let l : length (positionText n) - 10 ≡ w = omega (arith, length-position n) in
-    let b : h < 10 ^ w = by-hours (λ w. h < 10 ^ w) h (λ a. a) (λ a b. b) (λ a b. b) (λ a. omega arith) in
-    ap₂ (λ a b. number a * perHour + clockValue (drop 1 b))
-    (ap (λ l. take l (positionText n)) l ∙ take-at (digits h w) (colon ∷ clockOf n) w (length-digits h w))
-    (ap (λ l. drop l (positionText n)) l ∙ drop-at (digits h w) (colon ∷ clockOf n) w (length-digits h w))
-    ∙ ap₂ (λ a b. a * perHour + b) (number-digits h w b) (clock-back n)
-    ∙ div-add-mod' n perHour
-
-accepted :
-    (z : ℤ) (label : List ℕ) → positionLabel z ≡ value label →
-    (positionText (natAbs z) ≡ label) × (outside (pos 0) lastPosition z ≡ false)
-unfolding positionLabel
-accepted z label e = let p = passes (outside (pos 0) lastPosition z) 6 _ (sym e) in (sym (same-value (p .1)), p .0)
-
-position-read : (z : ℤ) (label : List ℕ) → positionLabel z ≡ value label → z ≡ pos (positionOf label)
-position-read z label e =
-    let a = accepted z label e in
-    let r = natural-within 0 lastPosition z (a .1) in
-    r .is ∙ ap pos (sym (position-back (natAbs z) (r .high)) ∙ ap positionOf (a .0))
-
 -- two positions with the same label are the same position
 pub same-position : (z y : ℤ) (label : List ℕ) → positionLabel z ≡ value label → positionLabel y ≡ value label → z ≡ y
-same-position z y label e f = position-read z label e ∙ sym (position-read y label f)
+same-position z y label e f = same-value (sym (position-write-read z label e) ∙ position-write-read y label f)
 
 -- ---- instants
 

@@ -46,6 +46,14 @@ value-le s b h = go (eqb s 48) refl h
     go true d h = let r = digit-range b h in omega (arith, eqb-true s 48 d, r .1)
     go false d h = omega (arith, eqb-true b s h)
 
+-- and 0 at a mark
+pub value-near : (s b : ℕ) → fitsOne s b ≡ true → b - s ≤ cond (eqb s 48) 9 0
+value-near s b h = go (eqb s 48) h (value-le s b h)
+  where
+    go : (d : Bool) → cond d (isDigit b) (eqb b s) ≡ true → b - s ≤ 9 → b - s ≤ cond d 9 0
+    go true h k = k
+    go false h k = omega (arith, eqb-true b s h)
+
 -- what fits differs by its value, in the low bits where a digit stands, and nowhere at a mark
 pub record Fit (s b : ℕ) : Type 0 where
   pub gap-is : bitXor b s ≡ b - s
@@ -106,3 +114,16 @@ module _ (s b : ℕ) (hs : s ≤ 255) (hb : b ≤ 255) where
             gap-le = omega (arith, k);
             fits-if = λ n. ap (λ d. cond d (isDigit b) (eqb b s)) d ∙ eq-eqb b s (same b s k);
           }
+
+  -- what differs by the value of a digit where a digit stands, and nowhere at a mark, fits
+  pub near-fits : bitXor b s ≤ cond (eqb s 48) 9 0 → fitsOne s b ≡ true
+  near-fits h = go (eqb s 48) refl h
+    where
+      go : (d : Bool) → eqb s 48 ≡ d → bitXor b s ≤ cond d 9 0 → fitsOne s b ≡ true
+      go true d h =
+          let z : bitAnd (bitXor b s) 240 ≡ 0 = high (bitXor b s) ∙ omega (arith, h) in
+          settle (ap (λ d. bitAnd (bitXor b s) (cond d 240 255)) d ∙ z) .fits-if h
+      go false d h =
+          let e : bitXor b s ≡ 0 = omega (arith, h) in
+          let z : bitAnd (bitXor b s) 255 ≡ 0 = and-mask (bitXor b s) 8 ∙ omega (arith, e) in
+          settle (ap (λ d. bitAnd (bitXor b s) (cond d 240 255)) d ∙ z) .fits-if (omega (arith, e))

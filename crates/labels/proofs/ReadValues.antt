@@ -42,7 +42,7 @@ pairs-at [] k = refl
 pairs-at (x ∷ xs) zero = refl
 pairs-at (x ∷ xs) (suc k) = pairs-at xs k
 
-pair-at : (xs : List ℕ) (k : ℕ) → AllLe 9 xs → pairOf (word xs) k ≡ getD xs k 0 * 10 + getD xs (suc k) 0
+pub pair-at : (xs : List ℕ) (k : ℕ) → AllLe 9 xs → pairOf (word xs) k ≡ getD xs k 0 * 10 + getD xs (suc k) 0
 pair-at [] k a = byte-at [] k tt
 pair-at (x ∷ xs) k a =
     let h = a .0 in

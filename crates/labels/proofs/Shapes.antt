@@ -10,7 +10,8 @@ use lib.Seq.{drop-drop}
 use Rattle.numbers.proofs.Bools.{no-both, and-left, and-right}
 use Rattle.labels.specs.Digits.{digits, number, isDigit, fitsOne, fits}
 use Rattle.labels.specs.Words.{partOf}
-use Rattle.labels.proofs.Decimal.{is-digit, allDigits, digits-number, length-digits}
+use Rattle.labels.specs.Stamps.{allDigits}
+use Rattle.labels.proofs.Decimal.{is-digit, digits-number, length-digits}
 
 -- a text that fits is as long as the shape
 pub uneven : (shape text : List ℕ) → (length shape ≡ length text → ⊥) → fits shape text ≡ false
@@ -21,7 +22,7 @@ uneven (s ∷ ss) (b ∷ bs) h = rw (uneven ss bs (λ e. h (ap suc e))) (and-fal
 
 -- ---- a shape of two parts
 
-fits-append : (a b text : List ℕ) → fits (a ++ b) text ≡ fits a (take (length a) text) && fits b (drop (length a) text)
+pub fits-append : (a b text : List ℕ) → fits (a ++ b) text ≡ fits a (take (length a) text) && fits b (drop (length a) text)
 fits-append [] b text = refl
 fits-append (s ∷ a) b [] = refl
 fits-append (s ∷ a) b (x ∷ text) = ap (λ t. fitsOne s x && t) (fits-append a b text) ∙ sym (and-assoc (fitsOne s x) _ _)
@@ -41,7 +42,7 @@ zeros (suc count) = ap (λ (l : List ℕ). l ++ 48 ∷ []) (zeros count) ∙ sno
     snoc zero = refl
     snoc (suc n) = ap (λ (l : List ℕ). 48 ∷ l) (snoc n)
 
-zeros-fit : (count : ℕ) (text : List ℕ) → fits (replicate count 48) text ≡ true → (length text ≡ count) × (allDigits text ≡ true)
+pub zeros-fit : (count : ℕ) (text : List ℕ) → fits (replicate count 48) text ≡ true → (length text ≡ count) × (allDigits text ≡ true)
 zeros-fit zero [] h = (refl, refl)
 zeros-fit zero (b ∷ bs) h = no-both false h refl
 zeros-fit (suc count) [] h = no-both false h refl

@@ -1,12 +1,12 @@
 -- Bytes as one number, and its bytes again.
 use Prim.Native.Nat.{ℕ, zero, suc, _+_, _-_, _*_, _/_, _%_, _^_, _≤_, _<_}
-use mathlib.Core.Path.{_≡_, refl, sym, ap, ap₂, _∙_}
+use mathlib.Core.Path.{_≡_, refl, sym, ap, ap₂, _∙_, subst}
 use mathlib.Core.List.{List, [], _∷_, _++_, append-assoc, append-nil}
 use native.Mathlib.Nat.{zero-div, pow-zero, pow-suc, pow-le-pow-right}
 use native.Mathlib.Omega.{arith}
 use lib.Dec.{lit<}
 use lib.ListN.{length, getD, take, drop, replicate, length-append, length-drop}
-use lib.Seq.{take-suc, take-length, drop-cons, drop-length, length-take-le, getD-take, getD-drop}
+use lib.Seq.{take-suc, take-length, take-add, drop-cons, drop-drop, drop-length, length-take-le, getD-take, getD-drop}
 use lib.Pow.{shr-shr}
 use mir.Syntax.{w8}
 use mir.Val.{Fits}
@@ -98,6 +98,61 @@ part-le limit at count text a = take-le count (drop at text) (drop-le limit at t
     take-le zero l a = tt
     take-le (suc n) [] a = tt
     take-le (suc n) (x ∷ l) a = (a .0, take-le n l (a .1))
+
+-- a part of two parts, and of a first byte and the others
+pub part-two : (at m n : ℕ) (text : List ℕ) → partOf at (m + n) text ≡ partOf at m text ++ partOf (at + m) n text
+part-two at m n text = take-add m n (drop at text) ∙ ap (λ l. partOf at m text ++ take n l) (drop-drop m at text)
+
+part-cons : (at n : ℕ) (text : List ℕ) → at < length text → partOf at (suc n) text ≡ getD text at 0 ∷ partOf (at + 1) n text
+part-cons at n text h = let e : suc at ≡ at + 1 = omega arith in ap (take (suc n)) (drop-cons text at 0 h) ∙ ap (λ j. getD text at 0 ∷ partOf j n text) e
+
+pub part-three : (at : ℕ) (text : List ℕ) → at + 3 ≤ length text → partOf at 3 text ≡ getD text at 0 ∷ getD text (at + 1) 0 ∷ getD text (at + 2) 0 ∷ []
+part-three at text h =
+    let e : at + 1 + 1 ≡ at + 2 = omega arith in
+    part-cons at 2 text (omega arith)
+    ∙ ap (λ l. getD text at 0 ∷ l) (part-cons (at + 1) 1 text (omega arith)
+    ∙ ap (λ l. getD text (at + 1) 0 ∷ l) (ap (λ j. partOf j 1 text) e ∙ part-cons (at + 2) 0 text (omega arith)))
+
+pub part-four :
+    (at : ℕ) (text : List ℕ) → at + 4 ≤ length text →
+    partOf at 4 text ≡ getD text at 0 ∷ getD text (at + 1) 0 ∷ getD text (at + 2) 0 ∷ getD text (at + 3) 0 ∷ []
+part-four at text h =
+    part-two at 3 1 text ∙ ap₂ _++_ (part-three at text (omega arith)) (part-cons (at + 3) 0 text (omega arith))
+
+pub part-five : (at : ℕ) (text : List ℕ) → at + 5 ≤ length text → partOf at 5 text ≡ partOf at 4 text ++ getD text (at + 4) 0 ∷ []
+part-five at text h = part-two at 4 1 text ∙ ap (λ l. partOf at 4 text ++ l) (part-cons (at + 4) 0 text (omega arith))
+
+-- the numbers of four and of eight bytes
+pub four-word :
+    (text : List ℕ) (at : ℕ) → at + 4 ≤ length text →
+    getD text at 0 + getD text (at + 1) 0 * 256 + getD text (at + 2) 0 * 65536 + getD text (at + 3) 0 * 16777216 ≡ word (partOf at 4 text)
+four-word text at h = sym (ap word (part-four at text h) ∙ omega arith)
+
+pub eight-word :
+    (text : List ℕ) (at : ℕ) → at + 8 ≤ length text → {a b : ℕ} → a ≡ word (partOf at 4 text) → b ≡ word (partOf (at + 4) 4 text) →
+    a + b * 4294967296 ≡ word (partOf at 8 text)
+eight-word text at h {a} {b} e f =
+    let p = part-four at text (omega arith) in
+    let q = part-four (at + 4) text (omega arith) in
+    sym (ap word (part-two at 4 4 text ∙ ap₂ _++_ p q) ∙ omega (arith, e ∙ ap word p, f ∙ ap word q))
+
+-- ---- a number is that of its bytes
+
+first-byte : (count n : ℕ) → bytesOf (suc count) n ≡ n % 256 ∷ bytesOf count (n / 256)
+first-byte zero n = ap (λ m. m % 256 ∷ []) (omega arith)
+first-byte (suc count) n =
+    let e : 8 * suc count ≡ 8 + 8 * count = omega arith in
+    ap₂ (λ l b. l ++ b ∷ []) (first-byte count n) (ap (λ j. n / 2 ^ j % 256) e ∙ ap (λ m. m % 256) (sym (shr-shr n 8 (8 * count))))
+
+pub bytes-le : (count n : ℕ) → AllLe 255 (bytesOf count n)
+bytes-le zero n = tt
+bytes-le (suc count) n = subst (AllLe 255) (sym (first-byte count n)) (omega arith, bytes-le count (n / 256))
+
+pub word-bytes : (count n : ℕ) → n < 256 ^ count → word (bytesOf count n) ≡ n
+word-bytes zero n h = omega (arith, rw pow-zero at h)
+word-bytes (suc count) n h =
+    let l : n / 256 < 256 ^ count = omega (arith, rw pow-suc at h) in
+    ap word (first-byte count n) ∙ omega (arith, word-bytes count (n / 256) l)
 
 -- ---- a list of at most eight bytes made a number from its end
 

@@ -4,7 +4,12 @@ pub mod Clock
 pub mod Rfc3339
 pub mod Webvtt
 pub mod Written
+pub mod Timestamps
+pub mod CueLines
+pub mod Cues
 -- What only proofs and private contracts need.
 pub mod Words
 pub mod Filled
 pub mod Parts
+pub mod Timings
+pub mod Stamps

@@ -96,6 +96,24 @@ fn word_at(text: &[u8], at: usize, count: usize) -> u64
     n
 }
 
+// Eight bytes of a text as one number, and four: one load, as long as none of them is used by itself.
+pub fn eight_bytes(text: &[u8], at: usize) -> u64
+    requires { ⌜ at + 8 ≤ length (now text) ⌝ }
+    ensures { λ r. ⌜ r ≡ word (partOf at 8 (now (text .entry))) ⌝ }
+{
+    four_bytes(text, at) + four_bytes(text, at + 4) * 0x1_0000_0000
+}
+
+pub fn four_bytes(text: &[u8], at: usize) -> u64
+    requires { ⌜ at + 4 ≤ length (now text) ⌝ }
+    ensures { λ r. ⌜ (r ≡ word (partOf at 4 (now (text .entry)))) × (r < 2 ^ 32) ⌝ }
+{
+    text[at] as u64
+        + text[at + 1] as u64 * 0x100
+        + text[at + 2] as u64 * 0x1_0000
+        + text[at + 3] as u64 * 0x100_0000
+}
+
 // The bits that a shape settles.
 fn mask_of(shape: &[u8]) -> u64
     requires { ⌜ length (now shape) ≤ 8 ⌝ }

@@ -3,6 +3,8 @@
 //     rfc3339::write_instant(instant, out)       bytes written       refusals 4, then 7
 //     rfc3339::read_instant(label)               instant             refusals 8, then 2, 3, 5
 //     webvtt::write_position(position, out)      bytes written       refusals 6, then 7
+//     webvtt::read_position(text)                position            refusals 13, then 6
+//     webvtt::read_cue(line)                     start and end       refusals 13, then 6, then 13
 //
 // `rfc3339::LENGTH` is the number of bytes of an instant's label.
 
@@ -10,8 +12,10 @@ use refusal::Refusal;
 
 mod buffer;
 mod clock;
+mod cue;
 mod digits;
 pub mod rfc3339;
+mod timestamp;
 pub mod webvtt;
 
 pub enum WriteAnswer {

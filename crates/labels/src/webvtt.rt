@@ -1,21 +1,42 @@
-// WebVTT position labels (W3C, WebVTT): hours, `:MM:SS.mmm`. Positions are in milliseconds.
+// WebVTT position labels (W3C, WebVTT): hours, `:MM:SS.mmm`. Positions are in milliseconds. Read are timestamps with any number of
+// zeros in front of the hours, or without hours, and cue timing lines without settings.
 
 use crate::WriteAnswer;
 use crate::buffer;
 use crate::clock;
+use crate::cue;
 use crate::digits;
 use crate::digits::COLON;
 use crate::digits::ZERO;
+use crate::timestamp;
+use crate::timestamp::BEYOND;
+use crate::timestamp::WRONG;
+use refusal::NumberAnswer;
 use refusal::Refusal;
 ghost use mathlib.Core.Path.{_≡_};
 ghost use Prim.Native.Nat.{_+_, _≤_, _<_};
 ghost use mathlib.Core.List.{[], _∷_, _++_};
 ghost use lib.ListN.{length};
+ghost use Rattle.refusal.specs.Outcome.{refused, numberOutcome};
 ghost use Rattle.labels.specs.Written.{writeOutcome, bytesWritten, writtenBuffer};
 ghost use Rattle.labels.specs.Filled.{filled, Begins};
 ghost use Rattle.labels.specs.Webvtt.{hourDigits, clockOf, positionLabel};
 ghost use Rattle.labels.specs.Digits.{digits};
 ghost use Rattle.labels.specs.Clock.{colon};
+ghost use Rattle.labels.specs.Timestamps.{positionAnswer};
+ghost use Rattle.labels.specs.Cues.{cueOutcome, cueAnswer};
+ghost use Rattle.labels.specs.Stamps.{Stamp, cueOfStamps};
+
+// The start and the end of a cue, in milliseconds.
+pub struct Cue {
+    pub start: i64,
+    pub end: i64,
+}
+
+pub enum CueAnswer {
+    Value(Cue),
+    Refused(Refusal),
+}
 
 const LAST_POSITION: i64 = 359999999999;
 
@@ -97,4 +118,103 @@ fn hour_digits(hours: u32) -> usize
         return 4;
     }
     5
+}
+
+// The position of a timestamp. 13 for a text of another shape, then 6 for a position above the limit.
+pub fn read_position(text: &[u8]) -> NumberAnswer
+    ensures { λ r. ⌜ numberOutcome r ≡ positionAnswer (now (text .entry)) ⌝ }
+{
+    let position = timestamp::read(text);
+    if position >= WRONG {
+        return NumberAnswer::Refused(Refusal::MalformedTiming);
+    }
+    if position >= BEYOND {
+        return NumberAnswer::Refused(Refusal::PositionOutOfRange);
+    }
+    NumberAnswer::Value(position as i64)
+}
+
+// The start and the end of a cue timing line. 13 for a line of another shape, then 6 for a position above the limit, then 13 for an end
+// not later than its start.
+pub fn read_cue(line: &[u8]) -> CueAnswer
+    ensures { λ r. ⌜ cueOutcome r ≡ cueAnswer (now (line .entry)) ⌝ }
+{
+    // The two usual lines: timestamps of twelve or of nine bytes, and one space each side of the arrow.
+    if line.len() == 29 {
+        if cue::has_gap(line, 12) {
+            let start = timestamp::full(line, 0);
+            let end = timestamp::full(line, 17);
+            if start | end < WRONG {
+                return cue_of(start, end);
+            }
+        }
+    }
+    if line.len() == 23 {
+        if cue::has_gap(line, 9) {
+            let start = timestamp::short(line, 0);
+            let end = timestamp::short(line, 14);
+            if start | end < WRONG {
+                return cue_of(start, end);
+            }
+        }
+    }
+    read_any_cue(line)
+}
+
+// The same of any line.
+fn read_any_cue(line: &[u8]) -> CueAnswer
+    ensures { λ r. ⌜ cueOutcome r ≡ cueAnswer (now (line .entry)) ⌝ }
+{
+    let first_end = cue::run_end(line, 0, false);
+    let arrow = cue::run_end(line, first_end, true);
+    if arrow == first_end {
+        return malformed();
+    }
+    if line.len() - arrow < 3 {
+        return malformed();
+    }
+    if line[arrow] != b'-' {
+        return malformed();
+    }
+    if line[arrow + 1] != b'-' {
+        return malformed();
+    }
+    if line[arrow + 2] != b'>' {
+        return malformed();
+    }
+    let arrow_end = arrow + 3;
+    let second = cue::run_end(line, arrow_end, true);
+    if second == arrow_end {
+        return malformed();
+    }
+    cue_of(
+        timestamp::read(&line[..first_end]),
+        timestamp::read(&line[second..]),
+    )
+}
+
+// The cue of two positions, each of which may be WRONG or BEYOND.
+fn cue_of(start: u64, end: u64) -> CueAnswer
+    requires { ⌜ Stamp start × Stamp end ⌝ }
+    ensures { λ r. ⌜ cueOutcome r ≡ cueOfStamps start end ⌝ }
+{
+    if start | end >= WRONG {
+        return malformed();
+    }
+    if start | end >= BEYOND {
+        return CueAnswer::Refused(Refusal::PositionOutOfRange);
+    }
+    if start >= end {
+        return malformed();
+    }
+    CueAnswer::Value(Cue {
+        start: start as i64,
+        end: end as i64,
+    })
+}
+
+fn malformed() -> CueAnswer
+    ensures { λ r. ⌜ cueOutcome r ≡ refused 13 ⌝ }
+{
+    CueAnswer::Refused(Refusal::MalformedTiming)
 }

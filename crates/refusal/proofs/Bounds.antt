@@ -3,9 +3,9 @@ use Prim.Native.Nat.{_≤_}
 use native.Mathlib.Omega.{arith}
 use Rattle.refusal.specs.Numbers.{refusalNumber}
 use Rattle.refusal.specs.declared.Refusal.{Refusal}
-use Rattle.refusal.specs.declared.Refusal.the-variants.{YearOutOfRange, MonthOutOfRange, DayOutOfRange, OutOfRange, TimeOutOfRange, PositionOutOfRange, BufferTooShort, MalformedLabel, ConstantOutOfLimits, DifferenceBelowBound, NoDifferenceUpToBound, UnequalLengths}
+use Rattle.refusal.specs.declared.Refusal.the-variants.{YearOutOfRange, MonthOutOfRange, DayOutOfRange, OutOfRange, TimeOutOfRange, PositionOutOfRange, BufferTooShort, MalformedLabel, ConstantOutOfLimits, DifferenceBelowBound, NoDifferenceUpToBound, UnequalLengths, MalformedTiming}
 
-pub number-le : (r : Refusal) → refusalNumber r ≤ 12
+pub number-le : (r : Refusal) → refusalNumber r ≤ 13
 number-le YearOutOfRange = omega arith
 number-le MonthOutOfRange = omega arith
 number-le DayOutOfRange = omega arith
@@ -18,3 +18,4 @@ number-le ConstantOutOfLimits = omega arith
 number-le DifferenceBelowBound = omega arith
 number-le NoDifferenceUpToBound = omega arith
 number-le UnequalLengths = omega arith
+number-le MalformedTiming = omega arith

@@ -1,7 +1,7 @@
--- The number of each refusal: document 01, "The numbered refusals".
+-- The number of each refusal: document 01, "The numbered refusals", and from 13 on document 02, whose "numbers added here .. join" them.
 use Prim.Native.Nat.{ℕ}
 use Rattle.refusal.specs.declared.Refusal.{Refusal}
-use Rattle.refusal.specs.declared.Refusal.the-variants.{YearOutOfRange, MonthOutOfRange, DayOutOfRange, OutOfRange, TimeOutOfRange, PositionOutOfRange, BufferTooShort, MalformedLabel, ConstantOutOfLimits, DifferenceBelowBound, NoDifferenceUpToBound, UnequalLengths}
+use Rattle.refusal.specs.declared.Refusal.the-variants.{YearOutOfRange, MonthOutOfRange, DayOutOfRange, OutOfRange, TimeOutOfRange, PositionOutOfRange, BufferTooShort, MalformedLabel, ConstantOutOfLimits, DifferenceBelowBound, NoDifferenceUpToBound, UnequalLengths, MalformedTiming}
 
 abbrev pub refusalNumber : Refusal → ℕ
 refusalNumber YearOutOfRange = 1
@@ -16,3 +16,4 @@ refusalNumber ConstantOutOfLimits = 9
 refusalNumber DifferenceBelowBound = 10
 refusalNumber NoDifferenceUpToBound = 11
 refusalNumber UnequalLengths = 12
+refusalNumber MalformedTiming = 13

@@ -1,6 +1,6 @@
-// The numbered refusals of document 01, "The numbered refusals", and the answer of a number or a refusal that the crates share.
+// The numbered refusals of document 01, "The numbered refusals", those that document 02 adds to them, and the answer of a number or a refusal that the crates share.
 //
-//     number(refusal)        its number, 1 to 12
+//     number(refusal)        its number, 1 to 13
 
 ghost use mathlib.Core.Path.{_≡_};
 ghost use Rattle.refusal.specs.Numbers.{refusalNumber};
@@ -30,6 +30,8 @@ pub enum Refusal {
     NoDifferenceUpToBound,
     // 12: index lists of unequal length
     UnequalLengths,
+    // 13: timestamp or cue line of another shape, or a cue's end not later than its start
+    MalformedTiming,
 }
 
 pub enum NumberAnswer {
@@ -37,7 +39,7 @@ pub enum NumberAnswer {
     Refused(Refusal),
 }
 
-// The number of a refusal, 1 to 12.
+// The number of a refusal, 1 to 13.
 pub fn number(refusal: Refusal) -> u64
     ensures { λ r. ⌜ r ≡ refusalNumber refusal ⌝ }
 {
@@ -54,5 +56,6 @@ pub fn number(refusal: Refusal) -> u64
         Refusal::DifferenceBelowBound => 10,
         Refusal::NoDifferenceUpToBound => 11,
         Refusal::UnequalLengths => 12,
+        Refusal::MalformedTiming => 13,
     }
 }

@@ -1,0 +1,165 @@
+-- Bytes of a text against those of a shape, each raised by a room that leaves its highest bit clear exactly if the byte is right.
+use Prim.Native.Nat.{ℕ, zero, suc, _+_, _*_, _/_, _%_, _≤_, _<_, _^_}
+use mathlib.Core.Path.{_≡_, refl, sym, ap, ap₂, _∙_}
+use mathlib.Core.Bool.{true, false, cond, _&&_}
+use mathlib.Core.List.{List, [], _∷_}
+use native.Mathlib.Omega.{arith}
+use lib.Bits.{bitAnd, bitOr, bitXor, and-block, and-high, and-zero-l, and-le-l, and-le-r, or-add-and, xor-lt}
+use lib.Dec.{eqb, lit<}
+use lib.ListN.{length, replicate}
+use Rattle.numbers.proofs.Bools.{no-both, and-left, and-right}
+use Rattle.labels.specs.Digits.{fitsOne, fits}
+use Rattle.labels.specs.Words.{word, above}
+use Rattle.labels.proofs.Words.{AllLe, word-le}
+use Rattle.labels.proofs.OneByte.{value-le, value-near, near-fits}
+use Rattle.labels.proofs.Gaps.{gaps, Both, rest-both, word-gaps, no-part}
+
+-- ---- the highest bits of bytes
+
+abbrev pub highest : ℕ
+highest = word (replicate 8 128)
+
+-- the highest bit of a byte
+top : (y : ℕ) → bitAnd y 128 ≡ y / 128 % 2 * 128
+top y = and-high y 1 7
+
+no-top : (y : ℕ) → y ≤ 127 → bitAnd y 128 ≡ 0
+no-top y h = top y ∙ omega arith
+
+top-none : (y : ℕ) → y ≤ 255 → bitAnd y 128 ≡ 0 → y ≤ 127
+top-none y h e =
+    let m : y / 128 % 2 ≡ y / 128 = omega arith in
+    let z : y / 128 * 128 ≡ 0 = sym (ap (λ q. q * 128) m) ∙ sym (top y) ∙ e in
+    omega (arith, z)
+
+top-step :
+    (n b : ℕ) (bs : List ℕ) → b ≤ 255 →
+    bitAnd (word (b ∷ bs)) (word (replicate (suc n) 128)) ≡ bitAnd (word bs) (word (replicate n 128)) * 256 + bitAnd b 128
+top-step n b bs h = let l : b < 256 = omega arith in and-block 8 (word bs) (word (replicate n 128)) b 128 l (lit< tt)
+
+pub low-clear : (l : List ℕ) (n : ℕ) → length l ≤ n → AllLe 127 l → bitAnd (word l) (word (replicate n 128)) ≡ 0
+low-clear [] n h a = and-zero-l (word (replicate n 128))
+low-clear (b ∷ bs) zero h a = absurd (omega arith)
+low-clear (b ∷ bs) (suc n) h a =
+    let k = a .0 in
+    top-step n b bs (omega arith) ∙ ap₂ (λ x y. x * 256 + y) (low-clear bs n (omega arith) (a .1)) (no-top b k)
+
+pub clear-low : (l : List ℕ) (n : ℕ) → length l ≤ n → AllLe 255 l → bitAnd (word l) (word (replicate n 128)) ≡ 0 → AllLe 127 l
+clear-low [] n h a e = tt
+clear-low (b ∷ bs) zero h a e = absurd (omega arith)
+clear-low (b ∷ bs) (suc n) h a e =
+    let z = no-part _ _ (sym (top-step n b bs (a .0)) ∙ e) in
+    (top-none b (a .0) (z .1), clear-low bs n (omega arith) (a .1) (z .0))
+
+-- bits that neither of two numbers has, and that one of them has
+pub or-none : (a b : ℕ) → bitOr a b ≡ 0 → (a ≡ 0) × (b ≡ 0)
+or-none a b e = (omega (arith, e, or-add-and a b, and-le-r a b), omega (arith, e, or-add-and a b, and-le-l a b))
+
+-- ---- raised bytes
+
+abbrev pub raised : (rooms l : List ℕ) → List ℕ
+raised [] l = l
+raised (r ∷ rooms) [] = []
+raised (r ∷ rooms) (x ∷ l) = (x + r) ∷ raised rooms l
+
+word-raised : (rooms l : List ℕ) → length rooms ≡ length l → word l + word rooms ≡ word (raised rooms l)
+word-raised [] l e = omega arith
+word-raised (r ∷ rooms) [] e = absurd (omega arith)
+word-raised (r ∷ rooms) (x ∷ l) e = let h = word-raised rooms l (omega arith) in omega arith
+
+raised-length : (rooms l : List ℕ) → length (raised rooms l) ≤ length l
+raised-length [] l = omega arith
+raised-length (r ∷ rooms) [] = omega arith
+raised-length (r ∷ rooms) (x ∷ l) = let h = raised-length rooms l in omega arith
+
+raised-le : (rooms l : List ℕ) → AllLe 127 rooms → AllLe 127 l → AllLe 255 (raised rooms l)
+raised-le [] [] a b = tt
+raised-le [] (x ∷ l) a b = let h = b .0 in (omega arith, raised-le [] l a (b .1))
+raised-le (r ∷ rooms) [] a b = tt
+raised-le (r ∷ rooms) (x ∷ l) a b = let h = a .0 in let k = b .0 in (omega arith, raised-le rooms l (a .1) (b .1))
+
+-- ---- a text of at most eight bytes, held against a shape
+
+gaps-low : (shape text : List ℕ) → AllLe 127 shape → AllLe 127 text → AllLe 127 (gaps shape text)
+gaps-low [] text a b = tt
+gaps-low (s ∷ ss) [] a b = tt
+gaps-low (s ∷ ss) (x ∷ xs) a b =
+    let h : x < 128 = omega (arith, b .0) in
+    let k : s < 128 = omega (arith, a .0) in
+    (omega (arith, xor-lt 7 x s h k), gaps-low ss xs (a .1) (b .1))
+
+gaps-size : (shape text : List ℕ) → length shape ≡ length text → length (gaps shape text) ≡ length text
+gaps-size [] [] e = refl
+gaps-size [] (x ∷ xs) e = absurd (omega arith)
+gaps-size (s ∷ ss) [] e = refl
+gaps-size (s ∷ ss) (x ∷ xs) e = ap suc (gaps-size ss xs (omega arith))
+
+pub record Held (shape rooms text : List ℕ) (n : ℕ) : Type 0 where
+  pub is-text : n ≡ word text
+  pub both : Both shape text
+  pub short : length text ≤ 8
+  pub shape-low : AllLe 127 shape
+  pub rooms-low : AllLe 127 rooms
+  pub rooms-size : length rooms ≡ length text
+
+module _ {shape rooms text : List ℕ} {n : ℕ} (h : Held shape rooms text n) where
+  -- no byte has its highest bit
+  pub low-text : bitAnd n highest ≡ 0 → AllLe 127 text
+  low-text e = clear-low text 8 (h .short) (h .both .1 .1) (sym (ap (λ n. bitAnd n highest) (h .is-text)) ∙ e)
+
+  pub text-clear : AllLe 127 text → bitAnd n highest ≡ 0
+  text-clear a = ap (λ n. bitAnd n highest) (h .is-text) ∙ low-clear text 8 (h .short) a
+
+  pub gap-word : bitXor n (word shape) ≡ word (gaps shape text)
+  gap-word = ap (λ n. bitXor n (word shape)) (h .is-text) ∙ word-gaps shape text (h .both)
+
+  sizes : length (gaps shape text) ≡ length text
+  sizes = gaps-size shape text (h .both .0)
+
+  sum-word : bitXor n (word shape) + word rooms ≡ word (raised rooms (gaps shape text))
+  sum-word = ap (λ g. g + word rooms) gap-word ∙ word-raised rooms (gaps shape text) (h .rooms-size ∙ sym sizes)
+
+  few : length (raised rooms (gaps shape text)) ≤ 8
+  few = omega (arith, raised-length rooms (gaps shape text), sizes, h .short)
+
+  module _ (low : AllLe 127 text) where
+    sum-le : AllLe 255 (raised rooms (gaps shape text))
+    sum-le = raised-le rooms (gaps shape text) (h .rooms-low) (gaps-low shape text (h .shape-low) low)
+
+    pub sum-below : bitXor n (word shape) + word rooms < 2 ^ 64
+    sum-below = omega (arith, sum-word, word-le 255 (raised rooms (gaps shape text)) 8 few sum-le)
+
+    pub roomy : bitAnd (bitXor n (word shape) + word rooms) highest ≡ 0 → AllLe 127 (raised rooms (gaps shape text))
+    roomy e = clear-low (raised rooms (gaps shape text)) 8 few sum-le (sym (ap (λ s. bitAnd s highest) sum-word) ∙ e)
+
+  pub room-clear : AllLe 127 (raised rooms (gaps shape text)) → bitAnd (bitXor n (word shape) + word rooms) highest ≡ 0
+  room-clear a = ap (λ s. bitAnd s highest) sum-word ∙ low-clear (raised rooms (gaps shape text)) 8 few a
+
+-- ---- a text that fits
+
+-- the values of digits, and 0 at marks
+abbrev pub AllNear : (shape l : List ℕ) → Type 0
+AllNear [] l = Unit {0}
+AllNear (s ∷ ss) [] = Unit {0}
+AllNear (s ∷ ss) (x ∷ l) = (x ≤ cond (eqb s 48) 9 0) × AllNear ss l
+
+pub all-near : (shape text : List ℕ) → fits shape text ≡ true → AllNear shape (above shape text)
+all-near [] text f = tt
+all-near (s ∷ ss) [] f = tt
+all-near (s ∷ ss) (b ∷ bs) f = (value-near s b (and-left (fitsOne s b) (fits ss bs) f), all-near ss bs (and-right (fitsOne s b) (fits ss bs) f))
+
+pub near-all-fit : (shape text : List ℕ) → Both shape text → AllNear shape (gaps shape text) → fits shape text ≡ true
+near-all-fit [] [] h n = refl
+near-all-fit [] (b ∷ bs) h n = absurd (omega (arith, h .0))
+near-all-fit (s ∷ ss) [] h n = absurd (omega (arith, h .0))
+near-all-fit (s ∷ ss) (b ∷ bs) h n =
+    ap₂ _&&_ (near-fits s b (h .1 .0 .0) (h .1 .1 .0) (n .0)) (near-all-fit ss bs (rest-both s b ss bs h) (n .1))
+
+pub fits-low : (shape text : List ℕ) → AllLe 118 shape → fits shape text ≡ true → AllLe 127 text
+fits-low [] [] a f = tt
+fits-low [] (b ∷ bs) a f = no-both false f refl
+fits-low (s ∷ ss) [] a f = no-both false f refl
+fits-low (s ∷ ss) (b ∷ bs) a f =
+    let h = a .0 in
+    let k = value-le s b (and-left (fitsOne s b) (fits ss bs) f) in
+    (omega arith, fits-low ss bs (a .1) (and-right (fitsOne s b) (fits ss bs) f))

@@ -1,0 +1,34 @@
+-- What a cue timing line answers: document 02, request One, "13 for a wrong shape, 6 for a position above the limit, and on a cue line 13
+-- again for an end not later than its start".
+use Prim.Native.Nat.{ℕ}
+use mathlib.Core.Bool.{cond}
+use mathlib.Core.List.{List}
+use lib.Dec.{ltb}
+use Rattle.refusal.specs.Numbers.{refusalNumber}
+use Rattle.refusal.specs.Outcome.{Outcome, value, refused, andThen}
+use Rattle.labels.specs.Timestamps.{positionOf, positionAnswer}
+use Rattle.labels.specs.CueLines.{Timing, between, none}
+use Rattle.labels.specs.Timings.{timing}
+use Rattle.labels.specs.declared.webvtt.Cue.{Cue}
+use Rattle.labels.specs.declared.webvtt.CueAnswer.{CueAnswer}
+use Rattle.labels.specs.declared.webvtt.CueAnswer.the-variants as C
+
+-- what each case of an answer hands back
+abbrev pub cueOutcome : CueAnswer → Outcome Cue
+cueOutcome (C.Value cue) = value cue
+cueOutcome (C.Refused r) = refused (refusalNumber r)
+
+-- the cue of two timestamps: 6 for either position, then 13 for an end not later than the start
+unfoldable pub cueOf : (first second : List ℕ) → Outcome Cue
+cueOf first second =
+    andThen (positionAnswer first) (λ start.
+    andThen (positionAnswer second) (λ end.
+    cond (ltb (positionOf first) (positionOf second)) (value (record { start = start; end = end })) (refused 13)))
+
+abbrev pub timingAnswer : {line : List ℕ} → Timing line → Outcome Cue
+timingAnswer (between first second parts) = cueOf first second
+timingAnswer (none never) = refused 13
+
+-- 13 for a line that is no cue line, then what its two timestamps make; what `timing` decides stands in its type (specs/CueLines.antt)
+unfoldable pub cueAnswer : (line : List ℕ) → Outcome Cue
+cueAnswer line = timingAnswer (timing line)

@@ -1,0 +1,43 @@
+// Cue timing lines: a timestamp, one or more blanks, `-->`, one or more blanks, a timestamp.
+
+use crate::digits;
+ghost use mathlib.Core.Path.{_≡_};
+ghost use Prim.Native.Nat.{_+_, _≤_};
+ghost use lib.ListN.{length, drop};
+ghost use Rattle.labels.specs.Digits.{fits};
+ghost use Rattle.labels.specs.Words.{partOf};
+ghost use Rattle.labels.specs.CueLines.{isBlank};
+ghost use Rattle.labels.specs.Timings.{run, usualGap};
+
+const SPACE: u8 = b' ';
+
+const TAB: u8 = b'\t';
+
+// Whether ` --> ` stands from byte `at` of a line on.
+pub fn has_gap(line: &[u8], at: usize) -> bool
+    requires { ⌜ at + 5 ≤ length (now line) ⌝ }
+    ensures { λ r. ⌜ r ≡ fits usualGap (partOf at 5 (now (line .entry))) ⌝ }
+{
+    digits::four_bytes(line, at) == 0x3e2d_2d20 && line[at + 4] == SPACE
+}
+
+// The end of the blanks, or of the bytes that are none, from byte `from` of a line on.
+pub fn run_end(line: &[u8], from: usize, blank: bool) -> usize
+    requires { ⌜ from ≤ length (now line) ⌝ }
+    ensures { λ r. ⌜ (r ≡ from + run blank (drop from (now (line .entry)))) × (r ≤ length (now (line .entry))) ⌝ }
+{
+    let mut i = from;
+    while i < line.len() {
+        if is_blank(line[i]) != blank {
+            return i;
+        }
+        i += 1;
+    }
+    i
+}
+
+fn is_blank(byte: u8) -> bool
+    ensures { λ r. ⌜ r ≡ isBlank byte ⌝ }
+{
+    byte == SPACE || byte == TAB
+}
