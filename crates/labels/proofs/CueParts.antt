@@ -3,7 +3,7 @@ use Prim.Native.Nat.{ℕ}
 use mathlib.Core.Path.{_≡_, refl, sym, ap₂, _∙_}
 use mathlib.Core.List.{List}
 use Rattle.refusal.specs.Outcome.{refused}
-use Rattle.labels.specs.CueLines.{CueLine, Timing, between, none}
+use Rattle.labels.specs.CueLines.{CueLine, Timing, between, of-none}
 use Rattle.labels.specs.Timings.{timing, cuts}
 use Rattle.labels.specs.Cues.{cueOf, timingAnswer, cueAnswer}
 
@@ -23,7 +23,7 @@ cue-line line first second c = go (timing line)
   where
     go : (t : Timing line) → timingAnswer t ≡ cueOf first second
     go (between f s d) = let e = one-cue line f s first second d c in ap₂ cueOf (e .0) (e .1)
-    go (none never) = absurd (never first second c)
+    go (of-none never) = absurd (never first second c)
 
 -- and any other line 13
 pub no-cue-line : (line : List ℕ) → ((first second : List ℕ) → CueLine line first second → ⊥) → cueAnswer line ≡ refused 13
@@ -32,4 +32,4 @@ no-cue-line line h = go (timing line)
   where
     go : (t : Timing line) → timingAnswer t ≡ refused 13
     go (between f s d) = absurd (h f s d)
-    go (none never) = refl
+    go (of-none never) = refl

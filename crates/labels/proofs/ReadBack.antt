@@ -22,7 +22,7 @@ use Rattle.labels.specs.Digits.{digits, number, numberAt, fits}
 use Rattle.labels.specs.Webvtt.{lastPosition, perHour, perMinute, perSecond, hourDigits, clockOf, positionText, positionLabel}
 use Rattle.labels.specs.Timestamps.{lastNine, inFront, isClock, hoursText, areHours, isTimestamp, clockValue, hoursValue, positionOf}
 use Rattle.labels.specs.Timestamps.{hasFullHours, withoutZeros, positionAnswer}
-use Rattle.labels.specs.CueLines.{CueLine, Timing, between, none}
+use Rattle.labels.specs.CueLines.{CueLine, Timing, between, of-none}
 use Rattle.labels.specs.Timings.{timing}
 use Rattle.labels.specs.Cues.{cueOf, timingAnswer, cueAnswer}
 use Rattle.labels.specs.declared.webvtt.Cue.{Cue}
@@ -447,7 +447,7 @@ made-of line c = go (timing line)
   where
     go : (t : Timing line) → timingAnswer t ≡ value c → MadeOf line c
     go (between first second d) e = record { first = first; second = second; cue-line-is = d; positions-are = makes first second c e }
-    go (none never) e = clash (cc)
+    go (of-none never) e = clash (cc)
 
 -- the positions of an accepted cue line lie in the range, and the end is later than the start
 pub cue-in-order : (line : List ℕ) (c : Cue) → cueAnswer line ≡ value c → InOrder c
@@ -488,7 +488,7 @@ cue-refusals line n = go (timing line)
 
     go : (t : Timing line) → timingAnswer t ≡ refused n → (n ≡ 13) ⊎ (n ≡ 6)
     go (between first second d) e = of-two first second (positionAnswer first) (positionAnswer second) (ltb (positionOf first) (positionOf second)) refl refl e
-    go (none never) e = inl (cc)
+    go (of-none never) e = inl (cc)
 
 -- an accepted line is a cue line of two timestamps, and the cue is their positions
 pub cue-accepted :

@@ -36,4 +36,4 @@ pub record CueLine (line first second : List ℕ) : Type 0 where
 -- of which two timestamps a line is a cue line, or that it is of none
 pub data Timing (line : List ℕ) : Type 0 where
   between : (first second : List ℕ) → CueLine line first second → Timing line
-  none : ((first second : List ℕ) → CueLine line first second → ⊥) → Timing line
+  of-none : ((first second : List ℕ) → CueLine line first second → ⊥) → Timing line

@@ -7,7 +7,7 @@ use lib.Dec.{ltb}
 use Rattle.refusal.specs.Numbers.{refusalNumber}
 use Rattle.refusal.specs.Outcome.{Outcome, value, refused, andThen}
 use Rattle.labels.specs.Timestamps.{positionOf, positionAnswer}
-use Rattle.labels.specs.CueLines.{Timing, between, none}
+use Rattle.labels.specs.CueLines.{Timing, between, of-none}
 use Rattle.labels.specs.Timings.{timing}
 use Rattle.labels.specs.declared.webvtt.Cue.{Cue}
 use Rattle.labels.specs.declared.webvtt.CueAnswer.{CueAnswer}
@@ -27,7 +27,7 @@ cueOf first second =
 
 abbrev pub timingAnswer : {line : List ℕ} → Timing line → Outcome Cue
 timingAnswer (between first second parts) = cueOf first second
-timingAnswer (none never) = refused 13
+timingAnswer (of-none never) = refused 13
 
 -- 13 for a line that is no cue line, then what its two timestamps make; what `timing` decides stands in its type (specs/CueLines.antt)
 unfoldable pub cueAnswer : (line : List ℕ) → Outcome Cue

@@ -13,7 +13,7 @@ use Rattle.numbers.proofs.Bools.{no-both, and-left, and-right}
 use Rattle.labels.specs.Digits.{digits, isDigit, fitsOne, fits}
 use Rattle.labels.specs.Clock.{colon, clockText}
 use Rattle.labels.specs.Timestamps.{lastNine, inFront, isClock, areHours, isTimestamp}
-use Rattle.labels.specs.CueLines.{isBlank, allBlank, areBlanks, arrow, CueLine, Timing, between, none}
+use Rattle.labels.specs.CueLines.{isBlank, allBlank, areBlanks, arrow, CueLine, Timing, between, of-none}
 
 -- ---- where the parts of a line begin and end
 
@@ -250,4 +250,4 @@ timing line = go (isCueLine line) refl
   where
     go : (t : Bool) → isCueLine line ≡ t → Timing line
     go true e = between (firstOf line) (secondOf line) (parts line e)
-    go false e = none (λ first second c. no-both (isCueLine line) (is-cue line first second c) e)
+    go false e = of-none (λ first second c. no-both (isCueLine line) (is-cue line first second c) e)

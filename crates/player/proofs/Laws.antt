@@ -7,7 +7,7 @@ use lib.IntN.{ℤ, pos, natAbs}
 use lib.Dec.{eqb, ltb}
 use lib.ListN.{length}
 use lib.Signed.{nonNeg}
-use Rattle.refusal.specs.Outcome.{Outcome, value, refused, refusedAt, mapValue}
+use Rattle.refusal.specs.Outcome.{Outcome, value, refused, refusedAt, andThen, mapValue}
 use Rattle.numbers.specs.Range.{outside}
 use Rattle.numbers.proofs.Between.{natural-within}
 use Rattle.numbers.proofs.Bools.{or-no}
@@ -22,6 +22,11 @@ use Rattle.labels.specs.Digits.{fits}
 use Rattle.labels.specs.Written.{bytesWritten}
 use Rattle.labels.specs.Rfc3339.{decimals, dateShape, timeShape, labelText, instantLabel, readAnswer}
 use Rattle.labels.specs.Webvtt.{lastPosition, positionLabel}
+use Rattle.labels.specs.Timestamps.{isTimestamp, positionOf, positionAnswer}
+use Rattle.labels.specs.CueLines.{Timing, between, of-none}
+use Rattle.labels.specs.Timings.{timing}
+use Rattle.labels.specs.Cues.{cueOf, timingAnswer, cueAnswer}
+use Rattle.labels.specs.declared.webvtt.Cue.{Cue}
 use Rattle.constants.specs.Least.{Found, at, none, leastBelow}
 use Rattle.constants.specs.Limits.{lastEnd, outsideLimits, endOutside, boundOutside}
 use Rattle.constants.specs.Answers.{difference, differenceAnswer, claimed, boundAnswer}
@@ -147,6 +152,29 @@ pub read-instant-tells : (label : List ℕ) → Tells returnedDone (readAnswer l
 unfolding readAnswer
 read-instant-tells label =
     guarded returnedDone (fits (dateShape ++ timeShape decimals) label) _ _ (join-tells _ _ _ _ _ _ _) (told refl)
+
+pub read-position-tells : (text : List ℕ) → Tells returned (positionAnswer text)
+unfolding positionAnswer
+read-position-tells text =
+    guarded returned (isTimestamp text) _ _ (guarded returned (outside (pos 0) lastPosition (pos (positionOf text))) _ _ (told refl) (told refl)) (told refl)
+
+-- a cue line refuses what one of its timestamps does
+pub read-cue-tells : (line : List ℕ) → Tells returnedDone (cueAnswer line)
+unfolding cueAnswer cueOf
+read-cue-tells line = go (timing line)
+  where
+    both : (a b : Outcome ℤ) (earlier : Bool) → Tells returned a → Tells returned b →
+        Tells {A = Cue} returnedDone (andThen a (λ start. andThen b (λ end. cond earlier (value (record { start = start; end = end })) (refused 13))))
+    both (value start) (value end) earlier p q = guarded returnedDone earlier _ _ (told refl) (told refl)
+    both (value start) (refused number) earlier p q = told (q .exactly)
+    both (value start) (refusedAt number place) earlier p q = told (q .exactly)
+    both (refused number) b earlier p q = told (p .exactly)
+    both (refusedAt number place) b earlier p q = told (p .exactly)
+
+    go : (t : Timing line) → Tells returnedDone (timingAnswer t)
+    go (between first second parts) =
+        both (positionAnswer first) (positionAnswer second) (ltb (positionOf first) (positionOf second)) (read-position-tells first) (read-position-tells second)
+    go (of-none never) = told refl
 
 -- ---- constants
 

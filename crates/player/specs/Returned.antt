@@ -11,6 +11,7 @@ use lib.Signed.{nonNeg}
 use Rattle.refusal.specs.Outcome.{Outcome, value, refused, refusedAt, mapValue}
 use Rattle.calendar.specs.declared.Date.{Date}
 use Rattle.instant.specs.declared.Fields.{Fields}
+use Rattle.labels.specs.declared.webvtt.Cue.{Cue}
 use Rattle.constants.specs.Least.{Found, at, none}
 
 -- the value, or the refusal's number negated
@@ -39,12 +40,15 @@ foundOr end none = end
 abbrev pub returnedFound : (end : ℤ) → Outcome Found → ℤ
 returnedFound end answer = returned (mapValue (foundOr end) answer)
 
--- a date and fields as the numbers of their place, in document 01's order
+-- a date, fields and a cue as the numbers of their place, in the order of the papers
 abbrev pub dateNumbers : Date → List ℤ
 dateNumbers d = d .year ∷ d .month ∷ d .day ∷ []
 
 abbrev pub fieldsNumbers : Fields → List ℤ
 fieldsNumbers f = f .year ∷ f .month ∷ f .day ∷ f .hour ∷ f .minute ∷ f .second ∷ f .millisecond ∷ []
+
+abbrev pub cueNumbers : Cue → List ℤ
+cueNumbers c = c .start ∷ c .end ∷ []
 
 -- what the place for a refusal's own place or least n holds after a call: what the refusal hands back, and in every other case what
 -- it held before

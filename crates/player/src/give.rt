@@ -8,6 +8,7 @@ use constants::SearchAnswer;
 use instant::FieldsAnswer;
 use instant::IndexAnswer;
 use labels::WriteAnswer;
+use labels::webvtt::CueAnswer;
 use refusal::NumberAnswer;
 use refusal::Refusal;
 ghost use Prim.Native.Nat.{ℕ, _<_, _^_};
@@ -18,9 +19,10 @@ ghost use Rattle.refusal.specs.Outcome.{value, refusedAt, numberOutcome, afterC
 ghost use Rattle.calendar.specs.Answers.{dateOutcome, flagOutcome};
 ghost use Rattle.instant.specs.Answers.{fieldsOutcome, indexOutcome};
 ghost use Rattle.labels.specs.Written.{writeOutcome};
+ghost use Rattle.labels.specs.Cues.{cueOutcome};
 ghost use Rattle.constants.specs.Least.{at};
 ghost use Rattle.constants.specs.Answers.{searchOutcome, claimOutcome};
-ghost use Rattle.player.specs.Returned.{returned, returnedCount, returnedFlag, returnedDone, returnedFound, dateNumbers, fieldsNumbers, afterRefusal};
+ghost use Rattle.player.specs.Returned.{returned, returnedCount, returnedFlag, returnedDone, returnedFound, dateNumbers, fieldsNumbers, cueNumbers, afterRefusal};
 
 pub fn returned_number(answer: NumberAnswer) -> i64
     ensures { λ r. ⌜ r ≡ returned (numberOutcome answer) ⌝ }
@@ -105,6 +107,19 @@ pub fn fields(answer: FieldsAnswer, place: &mut [i64; 7]) -> i64
             0
         }
         FieldsAnswer::Refused(why) => negated(why),
+    }
+}
+
+pub fn cue(answer: CueAnswer, place: &mut [i64; 2]) -> i64
+    ensures answer { λ r. ⌜ r ≡ returnedDone (cueOutcome answer) ⌝ }
+    ensures place { λ r. ⌜ now (place .exit) ≡ afterCall (cueOutcome answer) cueNumbers (now (place .entry)) ⌝ }
+{
+    match answer {
+        CueAnswer::Value(c) => {
+            *place = [c.start, c.end];
+            0
+        }
+        CueAnswer::Refused(why) => negated(why),
     }
 }
 

@@ -15,6 +15,8 @@
 //     ovenquill_write_instant(instant, out)                                   the bytes written
 //     ovenquill_read_instant(label, instant)                                  0, and the instant
 //     ovenquill_write_position(position, out)                                 the bytes written
+//     ovenquill_read_position(text)                                           the position
+//     ovenquill_read_cue(line, cue)                                           0, and start and end
 //     ovenquill_first_difference(a, b, d, m, c, k, t, end)                    the least n, or `end`
 //     ovenquill_check_bound(a, b, d, m, c, k, t, bound, least)                0 accepted; a refusal 10 puts the least n in `least`
 
@@ -25,8 +27,10 @@ ghost use Rattle.instant.specs.Answers.{dayAnswer, splitAnswer, joinAnswer, ind
 ghost use Rattle.labels.specs.Written.{bytesWritten, writtenBuffer};
 ghost use Rattle.labels.specs.Rfc3339.{instantLabel, readAnswer};
 ghost use Rattle.labels.specs.Webvtt.{positionLabel};
+ghost use Rattle.labels.specs.Timestamps.{positionAnswer};
+ghost use Rattle.labels.specs.Cues.{cueAnswer};
 ghost use Rattle.constants.specs.Answers.{differenceAnswer, boundAnswer};
-ghost use Rattle.player.specs.Returned.{returned, returnedCount, returnedFlag, returnedDone, returnedFound, dateNumbers, fieldsNumbers, afterRefusal};
+ghost use Rattle.player.specs.Returned.{returned, returnedCount, returnedFlag, returnedDone, returnedFound, dateNumbers, fieldsNumbers, cueNumbers, afterRefusal};
 
 mod give;
 
@@ -155,6 +159,21 @@ pub extern "C" fn ovenquill_write_position(position: i64, out: &mut [u8]) -> i64
     ensures buffer { λ r. ⌜ now (out .exit) ≡ writtenBuffer (positionLabel position) (now (out .entry)) ⌝ }
 {
     give::returned_bytes(labels::webvtt::write_position(position, out))
+}
+
+#[no_mangle]
+pub extern "C" fn ovenquill_read_position(text: &[u8]) -> i64
+    ensures { λ r. ⌜ r ≡ returned (positionAnswer (now (text .entry))) ⌝ }
+{
+    give::returned_number(labels::webvtt::read_position(text))
+}
+
+#[no_mangle]
+pub extern "C" fn ovenquill_read_cue(line: &[u8], cue: &mut [i64; 2]) -> i64
+    ensures answer { λ r. ⌜ r ≡ returnedDone (cueAnswer (now (line .entry))) ⌝ }
+    ensures cue { λ r. ⌜ now (cue .exit) ≡ afterCall (cueAnswer (now (line .entry))) cueNumbers (now (cue .entry)) ⌝ }
+{
+    give::cue(labels::webvtt::read_cue(line), cue)
 }
 
 #[no_mangle]
