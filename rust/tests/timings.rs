@@ -44,7 +44,7 @@ fn try_written(position: i64) {
     }
 }
 
-/// A position's timestamp, with more leading zeros or without its hours in one of three each, where it can be.
+/// A position's timestamp: as it is written, with more leading zeros, or without hours where it is below one.
 fn some_timestamp(random: &mut Random, position: i64) -> String {
     let label = plain::position_label(position);
     match random.within(0, 2) {
@@ -73,7 +73,7 @@ fn some_cue(random: &mut Random) -> Cue {
     Cue { start: random.choose(&[near, any]), end }
 }
 
-/// Right timestamps and lines, some of each.
+/// Right timestamps and lines: some that are fixed, and so many random ones of each.
 fn right_texts(random: &mut Random, count: usize) -> Vec<Vec<u8>> {
     let mut texts: Vec<String> = ["00:00.000", "59:59.999", "00:00:00.000", "99:59:59.999", "99999:59:59.999"]
         .into_iter()
@@ -325,8 +325,8 @@ fn written_positions_are_read_back() {
     }
 }
 
-/// Hours in so many digits that are above the last by little, or that wrap, in a number of so many bits, to few of these: the
-/// hours themselves, or the minutes, seconds or milliseconds that they have.
+/// Hours that in a number of so many bits would wrap to few, they or their minutes, seconds or milliseconds, and hours beside
+/// them.
 fn hours_that_wrap() -> Vec<String> {
     let mut hours = Vec::new();
     for bits in [16, 31, 32, 53, 63, 64, 65, 96] {

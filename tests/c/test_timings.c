@@ -30,8 +30,8 @@ static void try_text(const void *text, size_t length)
     if (texts++ % step != 0)
         return;
     lent_text = (uint8_t *)lend_copy(text, length), same_text = (uint8_t *)lend_copy(text, length);
-    position = ovenquill_read_position(lent_text, length);
-    same("ovenquill_read_position", input, position, plain_read_position(same_text, length));
+    position = plain_read_position(same_text, length);
+    same("ovenquill_read_position", input, ovenquill_read_position(lent_text, length), position);
     SAME_WITH_PLACE(ovenquill_cue, input, ovenquill_read_cue(lent_text, length, lent),
                     plain_read_cue(same_text, length, right));
     hold("a reader in its text", input, lent_text, same_text, length);
@@ -44,7 +44,7 @@ static void try_string(const char *text)
     try_text(text, strlen(text));
 }
 
-/* A text that is put together from its front. */
+/* A text that is put together from its front. Zero bytes follow it. */
 struct built {
     char bytes[300];
     size_t length;
@@ -341,7 +341,7 @@ static void check_hours(void)
         for (i = 0; i < 20; i++) {
             struct built text = {"", 0};
             for (j = 0; j < digits; j++)
-                add_bytes(&text, &"0123456789"[j < digits / 10 * i ? 0 : random_within(0, 9)], 1);
+                add_bytes(&text, &"0123456789"[j < digits * i / 20 ? 0 : random_within(0, 9)], 1);
             add(&text, ":12:34.567");
             try_timestamp(text.bytes);
             text.bytes[random_within(0, (int64_t)digits - 1)] = likely_byte();
