@@ -106,7 +106,10 @@ extern "C" {
 #define OVENQUILL_BOUND_MIN INT64_C(0)
 #define OVENQUILL_BOUND_MAX (OVENQUILL_END_MAX - 1)
 
-/* The bytes of an instant label, and the fewest and the most of a position label. No zero byte is written after a label. */
+/*
+ * The bytes of an instant label, and the fewest and the most of a position label that is written. No zero byte is written
+ * after a label, and a call that reads one looks for none.
+ */
 #define OVENQUILL_INSTANT_LABEL_BYTES 24
 #define OVENQUILL_POSITION_LABEL_MIN_BYTES 12
 #define OVENQUILL_POSITION_LABEL_MAX_BYTES 15
@@ -133,6 +136,7 @@ extern "C" {
 #define OVENQUILL_DIFFERENCE_BELOW_BOUND (-10)
 #define OVENQUILL_NO_DIFFERENCE_UP_TO_BOUND (-11)
 #define OVENQUILL_UNEQUAL_LENGTHS (-12)
+#define OVENQUILL_MALFORMED_TIMING (-13)
 
 /* A refusal in words, by what a call answered. Any number may be handed in; the text is never null and is not to be freed. */
 static inline const char *ovenquill_refusal_text(int64_t answer)
@@ -166,6 +170,8 @@ static inline const char *ovenquill_refusal_text(int64_t answer)
         return "claim: no difference at or below the bound";
     case OVENQUILL_UNEQUAL_LENGTHS:
         return "index lists of unequal length";
+    case OVENQUILL_MALFORMED_TIMING:
+        return "timestamp or cue line of another shape, or a cue's end not later than its start";
     default:
         return answer < 0 ? "unknown refusal" : "not refused";
     }
@@ -191,6 +197,12 @@ typedef struct ovenquill_fields {
     int64_t second;
     int64_t millisecond;
 } ovenquill_fields;
+
+/* The positions at which a cue starts and ends. */
+typedef struct ovenquill_cue {
+    int64_t start;
+    int64_t end;
+} ovenquill_cue;
 
 /* The calendar: Gregorian, run backwards without a break; year 0 is leap. */
 
@@ -328,7 +340,10 @@ int64_t ovenquill_write_instant(int64_t instant, uint8_t *out, size_t length);
  */
 int64_t ovenquill_read_instant(const uint8_t *label, size_t length, int64_t *instant);
 
-/* Position labels: hours, of at least two digits and with no other leading zero, and :MM:SS.mmm, as in WebVTT. */
+/*
+ * Position labels: the timestamps of WebVTT. One that is written has hours, of at least two digits and with no other leading
+ * zero, and :MM:SS.mmm. One that is read may have more leading zeros, or MM:SS.mmm alone.
+ */
 
 /*
  * Writes the label of a position to the front of `out`, and answers the bytes written, OVENQUILL_POSITION_LABEL_MIN_BYTES to
@@ -339,6 +354,31 @@ int64_t ovenquill_read_instant(const uint8_t *label, size_t length, int64_t *ins
  *   OVENQUILL_BUFFER_TOO_SHORT        length below the bytes of this position's label
  */
 int64_t ovenquill_write_position(int64_t position, uint8_t *out, size_t length);
+
+/*
+ * Reads a timestamp: hours of two or more decimal digits and :MM:SS.mmm, or MM:SS.mmm alone; minutes and seconds are 00 to 59.
+ * Answers its position. The `length` bytes are the timestamp and nothing else: no blank, no line ending, no zero byte.
+ *
+ * What ovenquill_write_position writes for a position is read as that position. A label that is read and written again has its
+ * hours, and no leading zero too many: 01:02.003 becomes 00:01:02.003.
+ *
+ * Refusals:
+ *   OVENQUILL_MALFORMED_TIMING        any other bytes; minutes or seconds of 60 to 99 are such
+ *   OVENQUILL_POSITION_OUT_OF_RANGE   position above OVENQUILL_LAST_POSITION, however many digits its hours have
+ */
+int64_t ovenquill_read_position(const uint8_t *text, size_t length);
+
+/*
+ * Reads a cue timing line without settings: a timestamp, as ovenquill_read_position reads it, one or more spaces or tabs, -->,
+ * one or more spaces or tabs, and a timestamp. Writes their positions to `cue` and answers 0. Nothing may stand before the
+ * first timestamp or behind the second: `length` counts no line ending.
+ *
+ * Refusals, after which `cue` is unchanged:
+ *   OVENQUILL_MALFORMED_TIMING        any other bytes
+ *   OVENQUILL_POSITION_OUT_OF_RANGE   start or end above OVENQUILL_LAST_POSITION
+ *   OVENQUILL_MALFORMED_TIMING        end not later than start
+ */
+int64_t ovenquill_read_cue(const uint8_t *line, size_t length, ovenquill_cue *cue);
 
 /*
  * Constants of a multiply-and-shift. The exact quotient at n is (a*n + b) / d, rounded down; the device's quotient is

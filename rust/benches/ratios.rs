@@ -9,7 +9,10 @@ mod measure;
 mod random;
 mod rivals;
 
-use measure::call::{Eight, EightTo, FourTo, Index, One, OneTo, Reader, SevenTo, Three, ThreeTo, Two, Writer};
+use measure::call::{
+    CueReader, Eight, EightTo, FourTo, Index, One, OneTo, PositionReader, Reader, SevenTo, Text, Three, ThreeTo, Two,
+    Writer, MOST_BLANKS,
+};
 use measure::{best_times, line, percentile, shown, Inputs, PARTS, ROUNDS};
 use ovenquill::{
     raw, Constants, Date, Fields, CLAIM_BOUNDS, DAYS, INSTANTS, INSTANT_LABEL_BYTES, POSITIONS, SEARCH_ENDS, YEARS,
@@ -35,6 +38,7 @@ fn main() {
     calendar_lines();
     instant_lines();
     label_lines();
+    timing_lines();
     index_lines();
     constants_lines();
     println!();
@@ -44,6 +48,7 @@ fn main() {
 #[cfg(chrono)]
 const CHRONO: &str = "libstdc++ chrono";
 const RUST: &str = "plain Rust";
+const BY_HAND: &str = "hand-written Rust";
 
 /// As many numbers from a range as a line has inputs.
 fn numbers(random: &mut Random, range: std::ops::RangeInclusive<i64>) -> Vec<i64> {
@@ -254,12 +259,103 @@ fn label_lines() {
         );
     }
     for (what, inputs) in [("read an instant label", &right), ("read a label, 1 in 8 damaged", &damaged)] {
-        line::<Reader>(
+        line::<Reader>(what, &Inputs::of(inputs), raw::ovenquill_read_instant, &[(BY_HAND, labels::read_instant)]);
+    }
+}
+
+// Timestamps and cue lines
+
+/// How many digits the hours of a timestamp have, 0 where it has none.
+type HourDigits = u32;
+
+/// As often none as two as more.
+fn some_digits(random: &mut Random) -> HourDigits {
+    random.choose(&[0, 0, 0, 2, 2, 2, 3, 4, 5])
+}
+
+/// A position whose hours have that many digits.
+fn some_position(random: &mut Random, digits: HourDigits) -> i64 {
+    let hours = match digits {
+        0 => 0,
+        2 => random.within(0, 99),
+        _ => random.within(10i64.pow(digits - 1), 10i64.pow(digits) - 1),
+    };
+    hours * labels::POSITION_HOUR + random.within(0, labels::POSITION_HOUR - 1)
+}
+
+fn timestamp(position: i64, digits: HourDigits) -> String {
+    let label = ovenquill::position_label(position).expect("a position in the range");
+    let without_hours = if digits == 0 { "00:".len() } else { 0 };
+    label.as_str()[without_hours..].to_string()
+}
+
+/// A line of two positions whose hours have that many digits, and so many blanks on either side of the arrow at most.
+fn some_line(random: &mut Random, digits: [HourDigits; 2], most_blanks: usize) -> String {
+    let mut positions = digits.map(|digits| (some_position(random, digits), digits));
+    positions.sort();
+    let [start, end] = positions.map(|(position, digits)| timestamp(position, digits));
+    let mut blanks = || -> String {
+        let count = random.within(1, most_blanks as i64);
+        (0..count).map(|_| if most_blanks == 1 { ' ' } else { random.choose(&[' ', '\t']) }).collect()
+    };
+    format!("{start}{}-->{}{end}", blanks(), blanks())
+}
+
+/// As many texts as a line has inputs.
+fn texts<const MOST: usize>(mut text: impl FnMut() -> String) -> Vec<Text<MOST>> {
+    (0..INPUTS).map(|_| Text::of(text().as_bytes())).collect()
+}
+
+/// The same texts, of which one in eight has a byte that is wrong, or a field that is.
+fn damaged<const MOST: usize>(random: &mut Random, texts: &[Text<MOST>]) -> Vec<Text<MOST>> {
+    let mut damaged = texts.to_vec();
+    for text in &mut damaged {
+        if random.within(0, 7) == 0 {
+            let bytes = text.bytes_mut();
+            let place = random.within(0, bytes.len() as i64 - 1) as usize;
+            bytes[place] = random.choose(b"?9");
+        }
+    }
+    damaged
+}
+
+fn timing_lines() {
+    let random = &mut Random::new(107);
+    let without_hours = texts(|| timestamp(some_position(random, 0), 0));
+    let with_hours = texts(|| timestamp(some_position(random, 2), 2));
+    let of_any_form = texts(|| {
+        let digits = some_digits(random);
+        timestamp(some_position(random, digits), digits)
+    });
+    let damaged_texts = damaged(random, &of_any_form);
+    for (what, inputs) in [
+        ("read a position, MM:SS.mmm", &without_hours),
+        ("read a position, HH:MM:SS.mmm", &with_hours),
+        ("read a position, of any form", &of_any_form),
+        ("read a position, 1 in 8 damaged", &damaged_texts),
+    ] {
+        line::<PositionReader>(
             what,
             &Inputs::of(inputs),
-            raw::ovenquill_read_instant,
-            &[("hand-written Rust", labels::read_instant)],
+            raw::ovenquill_read_position,
+            &[(BY_HAND, labels::read_position)],
         );
+    }
+
+    let with_hours = texts(|| some_line(random, [2; 2], 1));
+    let without_hours = texts(|| some_line(random, [0; 2], 1));
+    let of_any_form = texts(|| {
+        let digits = [some_digits(random), some_digits(random)];
+        some_line(random, digits, MOST_BLANKS)
+    });
+    let damaged_lines = damaged(random, &of_any_form);
+    for (what, inputs) in [
+        ("read a cue line, with hours", &with_hours),
+        ("read a cue line, without hours", &without_hours),
+        ("read a cue line, of any form", &of_any_form),
+        ("read a cue line, 1 in 8 damaged", &damaged_lines),
+    ] {
+        line::<CueReader>(what, &Inputs::of(inputs), raw::ovenquill_read_cue, &[(BY_HAND, labels::read_cue)]);
     }
 }
 

@@ -1,7 +1,7 @@
 //! Labels: the RFC 3339 form of instants and the WebVTT form of positions.
 
 use crate::raw;
-use crate::refusal::{counted, placed, Refusal};
+use crate::refusal::{counted, placed, returned, Refusal};
 use core::fmt;
 use core::ops::RangeInclusive;
 use core::str::{self, FromStr};
@@ -26,7 +26,7 @@ pub const INSTANT_LABEL_BYTES: usize = instant_label_form!().len();
 /// ```
 pub const POSITIONS: RangeInclusive<i64> = 0..=359999999999;
 
-/// The bytes of the longest position label.
+/// The bytes of the longest position label that is written.
 pub const POSITION_LABEL_BYTES: usize = 15;
 
 #[doc = concat!("Writes the label of an instant, `", instant_label_form!(), "`, to the front of a buffer and answers its")]
@@ -87,6 +87,77 @@ pub fn read_instant(label: &[u8]) -> Result<i64, Refusal> {
 pub fn write_position(position: i64, out: &mut [u8]) -> Result<usize, Refusal> {
     // SAFETY: the pointer and the length are those of one slice that is ours to lend.
     counted(unsafe { raw::ovenquill_write_position(position, out.as_mut_ptr(), out.len()) })
+}
+
+/// The position of a timestamp: `MM:SS.mmm`, or hours of two or more digits and `:MM:SS.mmm`.
+///
+/// What [`write_position`] writes for a position is read as that position. Leading zeros of the hours are read too, any
+/// number of them; they are never written.
+///
+/// Refused are bytes that are no timestamp, among them blanks around one and minutes or seconds of 60 to 99
+/// ([`Refusal::MalformedTiming`]), and then a position above the last of [`POSITIONS`], by hours of any number of digits
+/// ([`Refusal::PositionOutOfRange`]).
+///
+/// ```
+/// use ovenquill::{position_label, read_position, Refusal};
+///
+/// let position = read_position(b"01:02.003")?;
+/// assert_eq!(position, 62003);
+/// assert_eq!(position_label(position)?, "00:01:02.003");
+/// assert_eq!(read_position(b"0000:01:02.003"), Ok(position));
+/// assert_eq!(read_position(b"1:00:00.000"), Err(Refusal::MalformedTiming));
+/// assert_eq!(read_position(b"100000:00:00.000"), Err(Refusal::PositionOutOfRange));
+/// # Ok::<(), Refusal>(())
+/// ```
+#[inline]
+pub fn read_position(text: &[u8]) -> Result<i64, Refusal> {
+    // SAFETY: the pointer and the length are those of one slice.
+    returned(unsafe { raw::ovenquill_read_position(text.as_ptr(), text.len()) })
+}
+
+/// The positions at which a cue starts and ends.
+///
+/// The order of cues is that of their starts, and of their ends where they start together.
+///
+/// ```
+/// use ovenquill::{read_cue, Cue};
+///
+/// let cue = read_cue(b"00:01.500 --> 00:02.000")?;
+/// assert_eq!(cue, Cue { start: 1500, end: 2000 });
+/// assert!(cue < Cue { end: 2001, ..cue });
+/// # Ok::<(), ovenquill::Refusal>(())
+/// ```
+#[derive(Clone, Copy, Debug, PartialEq, Eq, PartialOrd, Ord, Hash)]
+#[repr(C)]
+pub struct Cue {
+    /// The position of the start, in milliseconds.
+    pub start: i64,
+    /// The position of the end, in milliseconds.
+    pub end: i64,
+}
+
+/// The place that a call writes a cue to, before it does.
+const NO_CUE: Cue = Cue { start: 0, end: 0 };
+
+/// The cue of a timing line without settings: a timestamp, as [`read_position`] reads it, one or more spaces or tabs,
+/// `-->`, one or more spaces or tabs, and a timestamp. The line comes without its line ending.
+///
+/// Refused are, in this order, bytes that are no such line ([`Refusal::MalformedTiming`]), a start or an end above the last
+/// of [`POSITIONS`] ([`Refusal::PositionOutOfRange`]) and an end that is not later than the start
+/// ([`Refusal::MalformedTiming`]).
+///
+/// ```
+/// use ovenquill::{read_cue, Cue, Refusal};
+///
+/// assert_eq!(read_cue(b"59:59.999\t--> 01:00:00.000"), Ok(Cue { start: 3599999, end: 3600000 }));
+/// assert_eq!(read_cue(b"59:59.999 --> 01:00:00.000 align:start"), Err(Refusal::MalformedTiming));
+/// assert_eq!(read_cue(b"00:02.000 --> 100000:00:00.000"), Err(Refusal::PositionOutOfRange));
+/// assert_eq!(read_cue(b"00:02.000 --> 00:02.000"), Err(Refusal::MalformedTiming));
+/// ```
+#[inline]
+pub fn read_cue(line: &[u8]) -> Result<Cue, Refusal> {
+    // SAFETY: the pointer and the length are those of one slice, and the place is ours to lend.
+    placed(NO_CUE, |cue| unsafe { raw::ovenquill_read_cue(line.as_ptr(), line.len(), cue) })
 }
 
 /// Makes a type of labels, which are held by value in so many bytes at most.
@@ -193,32 +264,47 @@ label_type! {
 label_type! {
     /// The label of a position. The order of labels is that of their positions.
     ///
+    /// [`position_label`] makes one of a position. One is read from text with [`str::parse`] and from bytes with
+    /// [`TryFrom`], which refuse what [`read_position`] refuses; it then is the label that is written for that position.
+    ///
     /// ```
-    /// use ovenquill::{position_label, Refusal};
+    /// use ovenquill::{position_label, PositionLabel, Refusal};
     ///
     /// let (long, short) = (position_label(360000000)?, position_label(359999999)?);
     /// assert_eq!((long.as_str(), short.as_str()), ("100:00:00.000", "99:59:59.999"));
     /// assert!(long > short);
+    ///
+    /// let read: PositionLabel = "01:02.003".parse()?;
+    /// assert_eq!(read, "00:01:02.003");
+    /// assert_eq!("1:02.003".parse::<PositionLabel>(), Err(Refusal::MalformedTiming));
     /// # Ok::<(), Refusal>(())
     /// ```
     PositionLabel, POSITION_LABEL_BYTES
 }
 
-impl FromStr for InstantLabel {
-    type Err = Refusal;
+/// Makes a type of labels one that is read: what is read is written again.
+macro_rules! read_label_type {
+    ($name:ident, $read:ident, $label:ident) => {
+        impl FromStr for $name {
+            type Err = Refusal;
 
-    fn from_str(text: &str) -> Result<InstantLabel, Refusal> {
-        InstantLabel::try_from(text.as_bytes())
-    }
+            fn from_str(text: &str) -> Result<$name, Refusal> {
+                $name::try_from(text.as_bytes())
+            }
+        }
+
+        impl TryFrom<&[u8]> for $name {
+            type Error = Refusal;
+
+            fn try_from(text: &[u8]) -> Result<$name, Refusal> {
+                $label($read(text)?)
+            }
+        }
+    };
 }
 
-impl TryFrom<&[u8]> for InstantLabel {
-    type Error = Refusal;
-
-    fn try_from(label: &[u8]) -> Result<InstantLabel, Refusal> {
-        instant_label(read_instant(label)?)
-    }
-}
+read_label_type!(InstantLabel, read_instant, instant_label);
+read_label_type!(PositionLabel, read_position, position_label);
 
 /// The label of an instant, by value.
 ///

@@ -10,7 +10,7 @@
 //! | days and dates | [`Date`], [`Weekday`] | [`days_from_civil`], [`civil_from_days`], [`weekday`], [`is_leap`], [`last_day_of_month`], [`day_of_year`], [`add_days`] |
 //! | instants | [`Fields`], [`IndexError`] | [`day_of_instant`], [`split_instant`], [`join_instant`], [`index_days`] |
 //! | labels of instants | [`InstantLabel`] | [`instant_label`], [`write_instant`], [`read_instant`] |
-//! | labels of positions | [`PositionLabel`] | [`position_label`], [`write_position`] |
+//! | labels of positions | [`PositionLabel`], [`Cue`] | [`position_label`], [`write_position`], [`read_position`], [`read_cue`] |
 //! | constants that stand for a division | [`Constants`], [`ClaimError`] | [`first_difference`], [`check_bound`] |
 //!
 //! Every call takes any numbers and any slices. What it does not take it answers with a [`Refusal`], which has a number and
@@ -52,8 +52,8 @@ pub use calendar::{
 pub use constants::{check_bound, first_difference, ClaimError, Constants, CLAIM_BOUNDS, SEARCH_ENDS};
 pub use instant::{day_of_instant, index_days, join_instant, split_instant, Fields, IndexError, INSTANTS};
 pub use labels::{
-    instant_label, position_label, read_instant, write_instant, write_position, InstantLabel, PositionLabel,
-    INSTANT_LABEL_BYTES, POSITIONS, POSITION_LABEL_BYTES,
+    instant_label, position_label, read_cue, read_instant, read_position, write_instant, write_position, Cue,
+    InstantLabel, PositionLabel, INSTANT_LABEL_BYTES, POSITIONS, POSITION_LABEL_BYTES,
 };
 pub use refusal::Refusal;
 pub use weekday::{weekday, Weekday};

@@ -2,7 +2,7 @@
 //! Every call returns a number from 0, or the refusal's number negated.
 #![allow(missing_docs)]
 
-use crate::{Date, Fields};
+use crate::{Cue, Date, Fields};
 
 extern "C" {
     pub fn ovenquill_days_from_civil(year: i64, month: i64, day: i64, days: *mut i64) -> i64;
@@ -36,6 +36,8 @@ extern "C" {
     pub fn ovenquill_write_instant(instant: i64, out: *mut u8, length: usize) -> i64;
     pub fn ovenquill_read_instant(label: *const u8, length: usize, instant: *mut i64) -> i64;
     pub fn ovenquill_write_position(position: i64, out: *mut u8, length: usize) -> i64;
+    pub fn ovenquill_read_position(text: *const u8, length: usize) -> i64;
+    pub fn ovenquill_read_cue(line: *const u8, length: usize, cue: *mut Cue) -> i64;
 
     pub fn ovenquill_first_difference(a: i64, b: i64, d: i64, m: i64, c: i64, k: i64, t: i64, end: i64) -> i64;
     pub fn ovenquill_check_bound(

@@ -387,6 +387,8 @@ fn position_labels_by_value() {
         let expected = plain::position_label(position);
         let label = position_label(position).unwrap();
         assert_eq!((label.as_str(), label.as_bytes()), (&expected[..], expected.as_bytes()));
+        assert_eq!(expected.parse::<PositionLabel>(), Ok(label));
+        assert_eq!(PositionLabel::try_from(format!("00{expected}").as_bytes()), Ok(label));
         if let Some((other, other_label)) = before {
             assert_eq!(label.cmp(&other_label), position.cmp(&other), "{label} {other_label}");
             assert_eq!(label == other_label, position == other, "{label} {other_label}");
@@ -396,6 +398,9 @@ fn position_labels_by_value() {
     for position in [-1, LAST_POSITION + 1, i64::MIN, i64::MAX] {
         assert_eq!(position_label(position), Err(Refusal::PositionOutOfRange));
     }
+    assert_eq!("01:02.003".parse::<PositionLabel>(), position_label(62003));
+    assert_eq!("100000:00:00.000".parse::<PositionLabel>(), Err(Refusal::PositionOutOfRange));
+    assert_eq!(PositionLabel::try_from(&b"\xff"[..]), Err(Refusal::MalformedTiming));
 }
 
 /// What both kinds of labels do as text: compare, show themselves and hash.

@@ -3,11 +3,13 @@
 
 mod support;
 
-use ovenquill::{raw, Constants, Date, Fields};
+use ovenquill::{raw, Constants, Cue, Date, Fields};
 use std::fmt::Debug;
 use std::ptr;
 use support::answer::Answer::{self, Refused, RefusedAt, Value};
-use support::plain::{self, FIRST_DAY, FIRST_INSTANT, FIRST_YEAR, LARGEST, LAST_DAY, LAST_INSTANT, LAST_YEAR, SECOND};
+use support::plain::{
+    self, FIRST_DAY, FIRST_INSTANT, FIRST_YEAR, LARGEST, LAST_DAY, LAST_INSTANT, LAST_POSITION, LAST_YEAR, SECOND,
+};
 use support::random::Random;
 
 const GUARD: i64 = 0x5afe_c0de_5afe_c0de;
@@ -23,6 +25,8 @@ const FIELDS_BEFORE: Fields = Fields {
     second: BEFORE + 5,
     millisecond: BEFORE + 6,
 };
+
+const CUE_BEFORE: Cue = Cue { start: BEFORE, end: BEFORE + 1 };
 
 /// A place among guard numbers.
 #[repr(C)]
@@ -188,6 +192,37 @@ fn the_reader() {
 }
 
 #[test]
+fn the_readers_of_timestamps_and_cue_lines() {
+    let mut random = Random::new(30);
+    let mut seen = [0; 3];
+    for _ in 0..300_000 {
+        let start = random.of_any_size(0, LAST_POSITION);
+        let end = some(&mut random, start, LAST_POSITION).clamp(0, LAST_POSITION);
+        let [start, end] = [start, end].map(|position| match random.within(0, 7) {
+            0 => format!("1{:05}:00:00.000", position % 100_000),
+            _ => plain::position_label(position),
+        });
+        let mut line = [start.as_bytes(), b" --> ", end.as_bytes()].concat();
+        if random.within(0, 2) == 0 {
+            let place = random.within(0, line.len() as i64 - 1) as usize;
+            line[place] = random.choose(b"0123456789:.-> \t");
+        }
+        let cue = plain::read_cue(&line);
+        try_place(cue, CUE_BEFORE, |cue| unsafe { raw::ovenquill_read_cue(line.as_ptr(), line.len(), cue) });
+        seen[match cue {
+            Value(_) => 0,
+            Refused(6) => 1,
+            _ => 2,
+        }] += 1;
+        for text in [&line[..], &line[..start.len()], &line[line.len() - end.len()..]] {
+            let position = unsafe { raw::ovenquill_read_position(text.as_ptr(), text.len()) };
+            assert_eq!(position, returned(plain::read_position(text)), "{:?}", String::from_utf8_lossy(text));
+        }
+    }
+    assert!(seen.iter().all(|&times| times > 10_000), "read, refused by 6 and by 13: {seen:?}");
+}
+
+#[test]
 fn searches_and_claims() {
     let mut random = Random::new(29);
     let mut seen = [0; 4];
@@ -243,6 +278,9 @@ fn no_slice_at_all() {
     assert_eq!(unsafe { raw::ovenquill_write_position(0, ptr::null_mut(), 0) }, -7);
     let read = lend(BEFORE, |instant| unsafe { raw::ovenquill_read_instant(ptr::null(), 0, instant) });
     assert_eq!(read, (-8, BEFORE));
+    assert_eq!(unsafe { raw::ovenquill_read_position(ptr::null(), 0) }, -13);
+    let read = lend(CUE_BEFORE, |cue| unsafe { raw::ovenquill_read_cue(ptr::null(), 0, cue) });
+    assert_eq!(read, (-13, CUE_BEFORE));
     let indexed = lend(BEFORE, |place| unsafe { raw::ovenquill_index_days(ptr::null(), 0, ptr::null_mut(), 0, place) });
     assert_eq!(indexed, (0, BEFORE));
     let mut days = [7; 1];

@@ -1,11 +1,12 @@
-//! The refusals: their numbers and words, and a call that gives each, against document 01's table.
+//! The refusals: their numbers and words, and a call that gives each, against document 01's table, which change request One
+//! adds to.
 
 mod support;
 
 use ovenquill::{
     add_days, check_bound, civil_from_days, day_of_instant, days_from_civil, first_difference, index_days, is_leap,
-    join_instant, last_day_of_month, read_instant, weekday, write_instant, write_position, ClaimError, Constants, Date,
-    Fields, IndexError, Refusal,
+    join_instant, last_day_of_month, read_cue, read_instant, read_position, weekday, write_instant, write_position,
+    ClaimError, Constants, Date, Fields, IndexError, Refusal,
 };
 use std::error::Error;
 use support::plain::{FIRST_YEAR, LAST_YEAR};
@@ -24,6 +25,7 @@ const TABLE: &[(i64, Refusal)] = &[
     (10, Refusal::DifferenceBelowBound),
     (11, Refusal::NoDifferenceUpToBound),
     (12, Refusal::UnequalLengths),
+    (13, Refusal::MalformedTiming),
 ];
 
 fn numbers() -> Vec<i64> {
@@ -95,13 +97,28 @@ fn each_refusal_is_given() {
             ],
         ),
         (5, vec![join_instant(Fields { second: 60, ..NOON }).unwrap_err()]),
-        (6, vec![write_position(-1, &mut []).unwrap_err()]),
+        (
+            6,
+            vec![
+                write_position(-1, &mut []).unwrap_err(),
+                read_position(b"100000:00:00.000").unwrap_err(),
+                read_cue(b"00:01.000 --> 100000:00:00.000").unwrap_err(),
+            ],
+        ),
         (7, vec![write_instant(0, &mut []).unwrap_err(), write_position(0, &mut []).unwrap_err()]),
         (8, vec![read_instant(b"").unwrap_err()]),
         (9, vec![first_difference(CONSTANTS, -1).unwrap_err(), check_bound(CONSTANTS, -1).unwrap_err().into()]),
         (10, vec![check_bound(CONSTANTS, 100).unwrap_err().into()]),
         (11, vec![check_bound(CONSTANTS, 10).unwrap_err().into()]),
         (12, vec![index_days(&[0], &mut []).unwrap_err().into()]),
+        (
+            13,
+            vec![
+                read_position(b"").unwrap_err(),
+                read_cue(b"").unwrap_err(),
+                read_cue(b"00:01.000 --> 00:01.000").unwrap_err(),
+            ],
+        ),
     ];
     assert_eq!(given.iter().map(|row| row.0).collect::<Vec<_>>(), numbers());
     for (number, refusals) in given {

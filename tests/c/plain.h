@@ -1,8 +1,9 @@
 /*
- * Document 01 in plain C, written from its text and sharing nothing with the library: years are counted one by one, labels
- * go by snprintf, the reader goes byte by byte, and the constants by trying every n. Each call here has the answer, and leaves
- * in what it is lent the bytes, that the library's call of the same name must have and leave: a date is three numbers, fields
- * are seven.
+ * Document 01 and change request One in plain C, written from their text and sharing nothing with the library: years are
+ * counted one by one, labels go by snprintf, the reader of instants goes byte by byte, the readers of timestamps and cue lines
+ * take one part after the other, and the constants go by trying every n. Each call here has the answer, and leaves in what it
+ * is lent the bytes, that the library's call of the same name must have and leave: a date is three numbers, fields are seven,
+ * a cue is two.
  */
 #ifndef PLAIN_H
 #define PLAIN_H
@@ -42,7 +43,7 @@ static const struct constants paper_most = {1023, 1023, 1048575, 4294967295LL, 4
 
 #define PAPER_END_MAX 4294967295LL
 #define PAPER_BOUND_MAX 4294967294LL
-#define PAPER_LAST_REFUSAL 12
+#define PAPER_LAST_REFUSAL 13
 
 /* The length of a month, 1 to 12. */
 int64_t plain_month_length(int64_t year, int64_t month);
@@ -61,6 +62,8 @@ int64_t plain_index_days(const int64_t *instants, size_t count, int32_t *days, s
 int64_t plain_write_instant(int64_t instant, uint8_t *out, size_t length);
 int64_t plain_read_instant(const uint8_t *label, size_t length, int64_t *instant);
 int64_t plain_write_position(int64_t position, uint8_t *out, size_t length);
+int64_t plain_read_position(const uint8_t *text, size_t length);
+int64_t plain_read_cue(const uint8_t *line, size_t length, int64_t *cue);
 int64_t plain_first_difference(struct constants q, int64_t end);
 int64_t plain_check_bound(struct constants q, int64_t bound, int64_t *least);
 

@@ -1,4 +1,7 @@
-/* Instants, the index and the two labels: document 01, "Instants and the two labels". */
+/*
+ * Instants, the index and the two labels: document 01, "Instants and the two labels". Reading positions and cue lines: change
+ * request One.
+ */
 #include <stdio.h>
 #include <string.h>
 
@@ -107,4 +110,99 @@ int64_t plain_write_position(int64_t position, uint8_t *out, size_t length)
     snprintf(label, sizeof label, "%02d:%02d:%02d.%03d", (int)(position / 3600000), (int)(position % 3600000 / 60000),
              (int)(position % 60000 / 1000), (int)(position % 1000));
     return put(label, out, length);
+}
+
+/* What is left of a text that is read from its front. */
+struct rest {
+    const uint8_t *next;
+    size_t length;
+};
+
+/* Takes one byte, where it is next. */
+static int take(struct rest *rest, char byte)
+{
+    if (rest->length == 0 || *rest->next != byte)
+        return 0;
+    rest->next++;
+    rest->length--;
+    return 1;
+}
+
+/* Takes the digits that are next, at most so many, and answers how many. Their number stops growing above the last one. */
+static size_t take_digits(struct rest *rest, size_t most, int64_t last, int64_t *number)
+{
+    size_t taken;
+    *number = 0;
+    for (taken = 0; taken < most && rest->length != 0 && !outside('0', '9', *rest->next); taken++) {
+        if (*number <= last)
+            *number = *number * 10 + *rest->next - '0';
+        rest->next++;
+        rest->length--;
+    }
+    return taken;
+}
+
+/* Takes exactly so many digits, whose number is not above the last one. */
+static int take_field(struct rest *rest, size_t digits, int64_t last, int64_t *number)
+{
+    return take_digits(rest, digits, last, number) == digits && *number <= last;
+}
+
+/* Takes MM:SS.mmm. */
+static int take_clock(struct rest *rest, int64_t *time)
+{
+    int64_t minute, second, millisecond;
+    if (!take_field(rest, 2, 59, &minute) || !take(rest, ':') || !take_field(rest, 2, 59, &second) || !take(rest, '.')
+        || !take_field(rest, 3, 999, &millisecond))
+        return 0;
+    *time = minute * MINUTE + second * PAPER_SECOND + millisecond;
+    return 1;
+}
+
+/* Takes a timestamp: hours, a colon and a clock, or else a clock alone. Its position may be above the last one. */
+static int take_timestamp(struct rest *rest, int64_t *position)
+{
+    const struct rest before = *rest;
+    const int64_t last_hour = PAPER_LAST_POSITION / HOUR;
+    int64_t hours, time;
+    if (take_digits(rest, rest->length, last_hour, &hours) >= 2 && take(rest, ':') && take_clock(rest, &time)) {
+        *position = hours * HOUR + time;
+        return 1;
+    }
+    *rest = before;
+    return take_clock(rest, position);
+}
+
+/* Takes spaces and tabs, one or more. */
+static int take_blanks(struct rest *rest)
+{
+    const size_t before = rest->length;
+    while (take(rest, ' ') || take(rest, '\t'))
+        continue;
+    return rest->length < before;
+}
+
+int64_t plain_read_position(const uint8_t *text, size_t length)
+{
+    struct rest rest = {text, length};
+    int64_t position;
+    if (!take_timestamp(&rest, &position) || rest.length != 0)
+        return -13;
+    return position > PAPER_LAST_POSITION ? -6 : position;
+}
+
+int64_t plain_read_cue(const uint8_t *line, size_t length, int64_t *cue)
+{
+    struct rest rest = {line, length};
+    int64_t start, end;
+    if (!take_timestamp(&rest, &start) || !take_blanks(&rest) || !take(&rest, '-') || !take(&rest, '-') || !take(&rest, '>')
+        || !take_blanks(&rest) || !take_timestamp(&rest, &end) || rest.length != 0)
+        return -13;
+    if (start > PAPER_LAST_POSITION || end > PAPER_LAST_POSITION)
+        return -6;
+    if (end <= start)
+        return -13;
+    cue[0] = start;
+    cue[1] = end;
+    return 0;
 }

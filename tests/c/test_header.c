@@ -72,6 +72,7 @@ static void check_refusals(void)
         OVENQUILL_OUT_OF_RANGE,           OVENQUILL_TIME_OUT_OF_RANGE,         OVENQUILL_POSITION_OUT_OF_RANGE,
         OVENQUILL_BUFFER_TOO_SHORT,       OVENQUILL_MALFORMED_LABEL,           OVENQUILL_CONSTANT_OUT_OF_LIMITS,
         OVENQUILL_DIFFERENCE_BELOW_BOUND, OVENQUILL_NO_DIFFERENCE_UP_TO_BOUND, OVENQUILL_UNEQUAL_LENGTHS,
+        OVENQUILL_MALFORMED_TIMING,
     };
     static const int64_t unknown[] = {-PAPER_LAST_REFUSAL - 1, INT32_MIN, INT64_MIN, INT64_MIN + 1};
     static const int64_t done[] = {0, 1, PAPER_LAST_REFUSAL, INT64_MAX};
@@ -90,11 +91,14 @@ static void check_structs(void)
 {
     static const ovenquill_date date = {1, 2, 3};
     static const ovenquill_fields fields = {1, 2, 3, 4, 5, 6, 7};
+    static const ovenquill_cue cue = {1, 2};
     static const int64_t row[] = {1, 2, 3, 4, 5, 6, 7};
     SAME(sizeof date, 3 * sizeof *row);
     SAME(sizeof fields, 7 * sizeof *row);
+    SAME(sizeof cue, 2 * sizeof *row);
     SAME(memcmp(&date, row, sizeof date), 0);
     SAME(memcmp(&fields, row, sizeof fields), 0);
+    SAME(memcmp(&cue, row, sizeof cue), 0);
     SAME(date.year, 1);
     SAME(date.month, 2);
     SAME(date.day, 3);
@@ -105,6 +109,8 @@ static void check_structs(void)
     SAME(fields.minute, 5);
     SAME(fields.second, 6);
     SAME(fields.millisecond, 7);
+    SAME(cue.start, 1);
+    SAME(cue.end, 2);
 }
 
 static void check_version(void)

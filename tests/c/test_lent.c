@@ -1,12 +1,14 @@
 /*
  * Every call, with what it is lent in heap blocks of exactly that size. Answers, buffers, lists and places are held to plain.h,
- * whole: what a refused call was lent and what stands after a label must be as it was. Compiled as C and as C++.
+ * whole: what a refused call was lent and what stands after a label must be as it was. The texts for the readers of timestamps
+ * and cue lines are in test_timings.c. Compiled as C and as C++.
  */
 #include <string.h>
 
 #include "lent.h"
 #include "ovenquill.h"
 #include "plain.h"
+#include "random.h"
 
 #define LABEL OVENQUILL_INSTANT_LABEL_BYTES
 #define RIGHT_INSTANT (1683729000 * PAPER_SECOND)
@@ -93,13 +95,6 @@ static const int64_t edges[] = {
     OVENQUILL_LAST_POSITION, OVENQUILL_LAST_POSITION + 1, 4287767296, 359999999, 360000000, 3599999999, 3600000000,
     35999999999, 36000000000,
 };
-
-static int64_t random_within(int64_t first, int64_t last)
-{
-    static uint64_t state = 1;
-    state = state * 6364136223846793005ULL + 1442695040888963407ULL;
-    return first + (int64_t)((state >> 11) % (uint64_t)(last - first + 1));
-}
 
 static int64_t random_instant(void)
 {
@@ -364,7 +359,9 @@ static void check_null(void)
     same("null buffer for a bad instant", 0, ovenquill_write_instant(INT64_MAX, NULL, 0), OVENQUILL_OUT_OF_RANGE);
     same("null buffer for a position", 0, ovenquill_write_position(0, NULL, 0), OVENQUILL_BUFFER_TOO_SHORT);
     same("null buffer for a bad position", 0, ovenquill_write_position(-1, NULL, 0), OVENQUILL_POSITION_OUT_OF_RANGE);
+    same("null timestamp", 0, ovenquill_read_position(NULL, 0), OVENQUILL_MALFORMED_TIMING);
     SAME_WITH_PLACE(int64_t, 0, ovenquill_read_instant(NULL, 0, lent), plain_read_instant(NULL, 0, right));
+    SAME_WITH_PLACE(ovenquill_cue, 0, ovenquill_read_cue(NULL, 0, lent), plain_read_cue(NULL, 0, right));
     SAME_WITH_PLACE(int64_t, 0, ovenquill_index_days(NULL, 0, NULL, 0, lent), plain_index_days(NULL, 0, NULL, 0, right));
     SAME_WITH_PLACE(int64_t, 1, ovenquill_index_days(none, 1, NULL, 0, lent), plain_index_days(none, 1, NULL, 0, right));
 }
@@ -387,6 +384,8 @@ static void check_unset_places(void)
 {
     static const int64_t day[7] = {2023, 5, 10, 14, 30, 59, 1}, no_day[7] = {2023, 2, 29, 14, 30, 59, 1};
     static const struct constants q = {1, 0, 10, 26, 0, 8, 0};
+    static const uint8_t line[] = "00:01.500 --> 00:02.000", late_line[] = "00:01.500 --> 100000:00:00.000",
+                         backward_line[] = "00:01.500 --> 00:01.500";
     const int64_t late = OVENQUILL_LAST_INSTANT + 1;
     uint8_t label[LABEL];
     plain_write_instant(RIGHT_INSTANT, label, LABEL);
@@ -411,6 +410,14 @@ static void check_unset_places(void)
     REFUSED_WITH_UNSET(int64_t, ovenquill_read_instant(label, LABEL - 1, lent), plain_read_instant(label, LABEL - 1, right));
     label[LABEL - 1] = '!';
     REFUSED_WITH_UNSET(int64_t, ovenquill_read_instant(label, LABEL, lent), plain_read_instant(label, LABEL, right));
+    DONE_WITH_UNSET(ovenquill_cue, ovenquill_read_cue(line, sizeof line - 1, lent),
+                    plain_read_cue(line, sizeof line - 1, right));
+    REFUSED_WITH_UNSET(ovenquill_cue, ovenquill_read_cue(line, sizeof line - 2, lent),
+                       plain_read_cue(line, sizeof line - 2, right));
+    REFUSED_WITH_UNSET(ovenquill_cue, ovenquill_read_cue(late_line, sizeof late_line - 1, lent),
+                       plain_read_cue(late_line, sizeof late_line - 1, right));
+    REFUSED_WITH_UNSET(ovenquill_cue, ovenquill_read_cue(backward_line, sizeof backward_line - 1, lent),
+                       plain_read_cue(backward_line, sizeof backward_line - 1, right));
     REFUSED_WITH_UNSET(int64_t, ovenquill_check_bound(q.a, q.b, q.d, q.m, q.c, q.k, q.t, 69, lent),
                        plain_check_bound(q, 69, right));
     REFUSED_WITH_UNSET(int64_t, ovenquill_check_bound(q.a, q.b, q.d, q.m, q.c, q.k, q.t, 68, lent),

@@ -1,4 +1,7 @@
-/* Document 01's rows, "Numbers to try", and a week of dates by the names of their days. Compiled as C and as C++. */
+/*
+ * Document 01's rows, "Numbers to try", a week of dates by the names of their days, and the words of change request One on
+ * reading positions. Compiled as C and as C++.
+ */
 #include <string.h>
 
 #include "checks.h"
@@ -94,6 +97,7 @@ static void check_position(int64_t position, const char *label)
     same("writing a position", position, ovenquill_write_position(position, out, length), (int64_t)length);
     same("label of a position", position, memcmp(out, label, length), 0);
     same("a byte too few", position, ovenquill_write_position(position, out, length - 1), OVENQUILL_BUFFER_TOO_SHORT);
+    same("a written position read back", position, ovenquill_read_position(out, length), position);
 }
 
 static void check_positions(void)
@@ -105,6 +109,70 @@ static void check_positions(void)
     same("position below 0", -1, ovenquill_write_position(-1, out, sizeof out), OVENQUILL_POSITION_OUT_OF_RANGE);
     same("position after the last", 360000000000, ovenquill_write_position(360000000000, out, sizeof out),
          OVENQUILL_POSITION_OUT_OF_RANGE);
+}
+
+static int64_t read_position(const char *text)
+{
+    return ovenquill_read_position((const uint8_t *)text, strlen(text));
+}
+
+/* "A read label written again gives the full form with hours." */
+static void check_full_form(const char *text, const char *full_form)
+{
+    uint8_t out[OVENQUILL_POSITION_LABEL_MAX_BYTES];
+    const size_t length = strlen(full_form);
+    same(text, 0, ovenquill_write_position(read_position(text), out, sizeof out), (int64_t)length);
+    same(text, 1, memcmp(out, full_form, length), 0);
+}
+
+/* "Hours of two or more digits, or no hours at all, in which case minutes lead; minutes and seconds 00 to 59, three decimals." */
+static void check_timestamps(void)
+{
+    check_full_form("01:02.003", "00:01:02.003");
+    check_full_form("00:01:02.003", "00:01:02.003");
+    check_full_form("59:59.999", "00:59:59.999");
+    check_full_form("123:59:59.999", "123:59:59.999");
+    check_full_form("000000000123:00:00.000", "123:00:00.000");
+    same("minutes lead", 0, read_position("01:02.003"), 62003);
+    same("hours of one digit", 0, read_position("1:01:02.003"), OVENQUILL_MALFORMED_TIMING);
+    same("minutes of one digit", 0, read_position("1:02.003"), OVENQUILL_MALFORMED_TIMING);
+    same("seconds of one digit", 0, read_position("01:2.003"), OVENQUILL_MALFORMED_TIMING);
+    same("minute 60", 0, read_position("60:02.003"), OVENQUILL_MALFORMED_TIMING);
+    same("second 60", 0, read_position("01:60.003"), OVENQUILL_MALFORMED_TIMING);
+    same("two decimals", 0, read_position("01:02.00"), OVENQUILL_MALFORMED_TIMING);
+    same("four decimals", 0, read_position("01:02.0030"), OVENQUILL_MALFORMED_TIMING);
+    same("the last position", 0, read_position("99999:59:59.999"), 359999999999);
+    same("a position above the limit", 0, read_position("100000:00:00.000"), OVENQUILL_POSITION_OUT_OF_RANGE);
+    same("13 before 6", 0, read_position("100000:60:00.000"), OVENQUILL_MALFORMED_TIMING);
+}
+
+static void check_cue(const char *line, int64_t answer, int64_t start, int64_t end)
+{
+    ovenquill_cue cue = {-1, -1};
+    same(line, 0, ovenquill_read_cue((const uint8_t *)line, strlen(line), &cue), answer);
+    same(line, 1, cue.start, start);
+    same(line, 2, cue.end, end);
+}
+
+static void check_refused_cue(const char *line, int64_t refusal)
+{
+    check_cue(line, refusal, -1, -1);
+}
+
+/* "A timestamp, one or more spaces or tabs, `-->`, the same again, a timestamp, with the end later than the start." */
+static void check_cues(void)
+{
+    check_cue("01:02.003 --> 01:02.004", 0, 62003, 62004);
+    check_cue("01:02.003 \t-->\t\t 99999:59:59.999", 0, 62003, 359999999999);
+    check_refused_cue("01:02.003--> 01:02.004", OVENQUILL_MALFORMED_TIMING);
+    check_refused_cue("01:02.003 -->01:02.004", OVENQUILL_MALFORMED_TIMING);
+    check_refused_cue("01:02.003 -> 01:02.004", OVENQUILL_MALFORMED_TIMING);
+    check_refused_cue("01:02.003 --> 01:02.004 line:0", OVENQUILL_MALFORMED_TIMING);
+    check_refused_cue("01:02.003 --> 100000:00:00.000", OVENQUILL_POSITION_OUT_OF_RANGE);
+    check_refused_cue("100000:00:00.000 --> 01:02.004", OVENQUILL_POSITION_OUT_OF_RANGE);
+    check_refused_cue("100000:00:00.000 --> 01:60.000", OVENQUILL_MALFORMED_TIMING);
+    check_refused_cue("01:02.003 --> 01:02.003", OVENQUILL_MALFORMED_TIMING);
+    check_refused_cue("01:02.003 --> 01:02.002", OVENQUILL_MALFORMED_TIMING);
 }
 
 /* A row of the constants: the first difference below the greatest search end, or none, and then the claims beside it. */
@@ -147,6 +215,8 @@ int main(void)
     check_calendar();
     check_instants();
     check_positions();
+    check_timestamps();
+    check_cues();
     check_all_constants();
-    return finish("document 01's numbers");
+    return finish("document 01's and change request One's numbers");
 }

@@ -1,6 +1,6 @@
 //! The shapes of the C calls, so that a line can be measured and compared whatever its call takes and writes.
 
-use ovenquill::{Date, Fields, INSTANT_LABEL_BYTES};
+use ovenquill::{Cue, Date, Fields, INSTANT_LABEL_BYTES, POSITION_LABEL_BYTES};
 use std::fmt::Debug;
 
 /// A C call, ours or a rival's.
@@ -58,6 +58,14 @@ impl Place for Fields {
 
     fn sum(&self) -> i64 {
         self.year + self.month + self.day + self.hour + self.minute + self.second + self.millisecond
+    }
+}
+
+impl Place for Cue {
+    const CLEARED: Cue = Cue { start: CLEARED, end: CLEARED };
+
+    fn sum(&self) -> i64 {
+        self.start + self.end
     }
 }
 
@@ -166,6 +174,70 @@ impl Call for Reader {
 
     fn sum(lent: &i64) -> i64 {
         *lent
+    }
+}
+
+/// A text of so many bytes at most, which stands where it is used: a call need not fetch it from elsewhere.
+#[derive(Clone, Copy)]
+pub struct Text<const MOST: usize> {
+    length: u8,
+    bytes: [u8; MOST],
+}
+
+impl<const MOST: usize> Text<MOST> {
+    pub fn of(text: &[u8]) -> Text<MOST> {
+        let mut bytes = [0; MOST];
+        bytes[..text.len()].copy_from_slice(text);
+        Text { length: text.len() as u8, bytes }
+    }
+
+    fn length(&self) -> usize {
+        self.length.into()
+    }
+
+    pub fn bytes_mut(&mut self) -> &mut [u8] {
+        &mut self.bytes[..usize::from(self.length)]
+    }
+}
+
+pub type PositionReader = unsafe extern "C" fn(*const u8, usize) -> i64;
+
+impl Call for PositionReader {
+    type Input = Text<POSITION_LABEL_BYTES>;
+    type Lent = ();
+
+    fn cleared(_: &Self::Input) {}
+
+    fn call(self, text: &Self::Input, _: &mut ()) -> i64 {
+        // SAFETY: the text has at least as many bytes as its length says.
+        unsafe { self(text.bytes.as_ptr(), text.length()) }
+    }
+
+    fn sum(_: &()) -> i64 {
+        0
+    }
+}
+
+pub type CueReader = unsafe extern "C" fn(*const u8, usize, *mut Cue) -> i64;
+
+/// The most blanks on either side of a cue line's arrow.
+pub const MOST_BLANKS: usize = 3;
+
+impl Call for CueReader {
+    type Input = Text<{ 2 * POSITION_LABEL_BYTES + 2 * MOST_BLANKS + "-->".len() }>;
+    type Lent = Cue;
+
+    fn cleared(_: &Self::Input) -> Cue {
+        Cue::CLEARED
+    }
+
+    fn call(self, line: &Self::Input, lent: &mut Cue) -> i64 {
+        // SAFETY: the line has at least as many bytes as its length says, and the place is ours to lend.
+        unsafe { self(line.bytes.as_ptr(), line.length(), lent) }
+    }
+
+    fn sum(lent: &Cue) -> i64 {
+        lent.sum()
     }
 }
 

@@ -1,10 +1,10 @@
-//! Labels: two digits at a time, from a table or by a division.
+//! Labels: written two digits at a time, from a table or by a division, and read.
 
 use super::calendar::{date_of, month_length, Parts, BY_SHIFTS};
 use super::instants::{checked, day_and_time, joined, HOUR, SECOND};
-use super::to_place;
+use super::{returned, to_place};
 use core::slice;
-use ovenquill::{INSTANT_LABEL_BYTES, POSITIONS};
+use ovenquill::{Cue, INSTANT_LABEL_BYTES, POSITIONS};
 
 static PAIRS: [[u8; 2]; 100] = {
     let mut pairs = [[0; 2]; 100];
@@ -149,4 +149,95 @@ fn read(label: &[u8]) -> Result<i64, i64> {
 #[inline(never)]
 pub unsafe extern "C" fn read_instant(label: *const u8, length: usize, instant: *mut i64) -> i64 {
     to_place(instant, read(slice::from_raw_parts(label, length)))
+}
+
+/// The hours of the last position.
+const LAST_HOURS: u64 = (*POSITIONS.end() / POSITION_HOUR) as u64;
+
+/// The bytes of `MM:SS.mmm`.
+const CLOCK_BYTES: usize = 9;
+
+#[inline(always)]
+fn digit(byte: u8) -> Result<u64, i64> {
+    if byte.is_ascii_digit() {
+        Ok((byte - b'0').into())
+    } else {
+        Err(13)
+    }
+}
+
+/// The number below 60 of two digits.
+#[inline(always)]
+fn below_60(tens: u8, ones: u8) -> Result<u64, i64> {
+    let number = digit(tens)? * 10 + digit(ones)?;
+    if number < 60 {
+        Ok(number)
+    } else {
+        Err(13)
+    }
+}
+
+/// The position of a timestamp, or a refusal. Hours that are too many are counted as one too many.
+#[inline(always)]
+fn timestamp(text: &[u8]) -> Result<i64, i64> {
+    if text.len() < CLOCK_BYTES {
+        return Err(13);
+    }
+    let (front, clock) = text.split_at(text.len() - CLOCK_BYTES);
+    let minute = below_60(clock[0], clock[1])?;
+    if clock[2] != b':' {
+        return Err(13);
+    }
+    let second = below_60(clock[3], clock[4])?;
+    if clock[5] != b'.' {
+        return Err(13);
+    }
+    let millisecond = digit(clock[6])? * 100 + digit(clock[7])? * 10 + digit(clock[8])?;
+    let mut hours = 0;
+    if let Some((&colon, digits)) = front.split_last() {
+        if colon != b':' || digits.len() < 2 {
+            return Err(13);
+        }
+        for &byte in digits {
+            hours = (hours * 10 + digit(byte)?).min(LAST_HOURS + 1);
+        }
+    }
+    if hours > LAST_HOURS {
+        return Err(6);
+    }
+    Ok((((hours * 60 + minute) * 60 + second) * POSITION_SECOND as u64 + millisecond) as i64)
+}
+
+#[inline(never)]
+pub unsafe extern "C" fn read_position(text: *const u8, length: usize) -> i64 {
+    returned(timestamp(slice::from_raw_parts(text, length)))
+}
+
+fn blank(byte: &u8) -> bool {
+    matches!(byte, b' ' | b'\t')
+}
+
+/// What follows the blanks that a text begins with, where it begins with one.
+#[inline(always)]
+fn after_blanks(text: &[u8]) -> Option<&[u8]> {
+    let blanks = text.iter().position(|byte| !blank(byte))?;
+    (blanks != 0).then(|| &text[blanks..])
+}
+
+/// The cue of a line, or a refusal.
+#[inline(always)]
+fn cue(line: &[u8]) -> Result<Cue, i64> {
+    let (start, rest) = line.split_at(line.iter().position(blank).ok_or(13)?);
+    let rest = after_blanks(rest).and_then(|rest| rest.strip_prefix(b"-->")).ok_or(13)?;
+    let end = after_blanks(rest).ok_or(13)?;
+    match (timestamp(start), timestamp(end)) {
+        (Ok(start), Ok(end)) if end > start => Ok(Cue { start, end }),
+        (Ok(_), Ok(_)) | (Err(13), _) | (_, Err(13)) => Err(13),
+        _ => Err(6),
+    }
+}
+
+#[inline(never)]
+pub unsafe extern "C" fn read_cue(line: *const u8, length: usize, place: *mut Cue) -> i64 {
+    to_place(place, cue(slice::from_raw_parts(line, length)))
 }

@@ -1,9 +1,10 @@
-//! Document 01 in plain Rust, written from its text and sharing nothing with the library but the types of dates, fields and
-//! constants. The calendar is a table of every day, built by stepping from each day to the next; instants go by
-//! `div_euclid` and `rem_euclid`, labels by `write!`, the reader byte by byte, and the constants by trying every n.
+//! Document 01 and change request One in plain Rust, written from their text and sharing nothing with the library but the
+//! types of dates, fields, cues and constants. The calendar is a table of every day, built by stepping from each day to the
+//! next; instants go by `div_euclid` and `rem_euclid`, labels by `write!`, the reader of instants byte by byte, timestamps
+//! and cue lines by splitting them at their marks and blanks, and the constants by trying every n.
 
 use super::answer::Answer::{self, Refused, RefusedAt, Value};
-use ovenquill::{Constants, Date, Fields};
+use ovenquill::{Constants, Cue, Date, Fields};
 use std::io::Write;
 use std::sync::OnceLock;
 
@@ -318,6 +319,72 @@ pub fn read_instant(label: &[u8]) -> Answer<i64> {
         second: fields[5],
         millisecond: fields[6],
     })
+}
+
+// Timestamps and cue lines
+
+/// A text that is digits and nothing else.
+fn digits(text: &[u8]) -> Option<&str> {
+    std::str::from_utf8(text).ok().filter(|text| text.bytes().all(|byte| byte.is_ascii_digit()))
+}
+
+/// The number of so many digits, where it is not above the last one.
+fn field(text: &[u8], length: usize, last: i64) -> Option<i64> {
+    let digits = digits(text).filter(|digits| digits.len() == length)?;
+    digits.parse().ok().filter(|&number| number <= last)
+}
+
+/// The number of hours, all those that are too many being the same.
+fn hours(text: &[u8]) -> Option<i64> {
+    let digits = digits(text).filter(|digits| digits.len() >= 2)?;
+    let last = LAST_POSITION / POSITION_HOUR;
+    match digits.trim_start_matches('0') {
+        "" => Some(0),
+        long if long.len() > last.to_string().len() => Some(last + 1),
+        short => short.parse().ok(),
+    }
+}
+
+/// The position of a timestamp, above the last one where its hours are; nothing where it has another shape.
+fn timestamp(text: &[u8]) -> Option<i64> {
+    let parts: Vec<&[u8]> = text.split(|&byte| byte == b':').collect();
+    let (hours, minutes, rest) = match parts[..] {
+        [minutes, rest] => (0, minutes, rest),
+        [first, minutes, rest] => (hours(first)?, minutes, rest),
+        _ => return None,
+    };
+    let parts: Vec<&[u8]> = rest.split(|&byte| byte == b'.').collect();
+    let [seconds, decimals] = parts[..] else { return None };
+    let (minutes, seconds) = (field(minutes, 2, 59)?, field(seconds, 2, 59)?);
+    let milliseconds = field(decimals, 3, 999)?;
+    Some(hours * POSITION_HOUR + minutes * POSITION_MINUTE + seconds * POSITION_SECOND + milliseconds)
+}
+
+pub fn read_position(text: &[u8]) -> Answer<i64> {
+    match timestamp(text) {
+        None => Refused(13),
+        Some(position) if position > LAST_POSITION => Refused(6),
+        Some(position) => Value(position),
+    }
+}
+
+pub fn read_cue(line: &[u8]) -> Answer<Cue> {
+    // What stands between two blanks that follow each other is empty.
+    let parts: Vec<&[u8]> = line.split(|&byte| byte == b' ' || byte == b'\t').collect();
+    let [first, between @ .., last] = &parts[..] else { return Refused(13) };
+    let arrows: Vec<&[u8]> = between.iter().copied().filter(|part| !part.is_empty()).collect();
+    match (timestamp(first), timestamp(last)) {
+        (Some(start), Some(end)) if arrows == [b"-->"] => {
+            if start > LAST_POSITION || end > LAST_POSITION {
+                Refused(6)
+            } else if end <= start {
+                Refused(13)
+            } else {
+                Value(Cue { start, end })
+            }
+        }
+        _ => Refused(13),
+    }
 }
 
 // Constants that stand for a division
