@@ -5,8 +5,8 @@ use mathlib.Core.Bool.{Bool, true, false, cond, _&&_, _||_}
 use mathlib.Core.List.{List, [], _∷_, _++_}
 use native.Mathlib.Omega.{arith}
 use borrow.Author.Tests.{lt-ltb, ltb-true}
-use lib.Bits.{bitAnd, bitOr, bitXor}
-use lib.Dec.{eqb, leb, ltb}
+use lib.Bits.{bitAnd, bitOr, bitXor, and-block, and-mask}
+use lib.Dec.{ltb, lit<}
 use lib.IntN.{pos}
 use lib.ListN.{length, getD, take, drop}
 use Rattle.numbers.specs.Range.{outside}
@@ -38,6 +38,28 @@ toSecondRooms = 118 ∷ 118 ∷ 127 ∷ 122 ∷ 118 ∷ 127 ∷ 122 ∷ 118 ∷ 
 
 abbrev fractionRooms : List ℕ
 fractionRooms = 127 ∷ 118 ∷ 118 ∷ 118 ∷ []
+
+-- the number of three decimals behind the point, from their values
+abbrev pub thousandths : (values : ℕ) → ℕ
+thousandths values = bitAnd (values * 10 + values / 256) 16711935 * 6553601 / 65536 % 65536
+
+decimals-are : (a b c : ℕ) → a ≤ 9 → b ≤ 9 → c ≤ 9 → thousandths (((c * 256 + b) * 256 + a) * 256) ≡ a * 100 + b * 10 + c
+decimals-are a b c ha hb hc =
+    let high = c * 10 * 256 + (b * 10 + c) in
+    let low = (a * 10 + b) * 256 + a in
+    let l : low < 65536 = omega arith in
+    let pairs : ((c * 256 + b) * 256 + a) * 256 * 10 + ((c * 256 + b) * 256 + a) * 256 / 256 ≡ high * 65536 + low = omega arith in
+    let h : high % 256 ≡ b * 10 + c = omega arith in
+    let k : low % 256 ≡ a = omega arith in
+    let masked : bitAnd (((c * 256 + b) * 256 + a) * 256 * 10 + ((c * 256 + b) * 256 + a) * 256 / 256) 16711935 ≡ (b * 10 + c) * 65536 + a =
+    ap (λ n. bitAnd n 16711935) pairs ∙ and-block 16 high 255 low 255 l (lit< tt)
+    ∙ ap₂ (λ x y. x * 65536 + y) (and-mask high 8 ∙ h) (and-mask low 8 ∙ k) in
+    ap (λ n. n * 6553601 / 65536 % 65536) masked ∙ times (b * 10 + c) a (omega arith) ha ∙ omega arith
+  where
+    times : (x a : ℕ) → x ≤ 99 → a ≤ 9 → (x * 65536 + a) * 6553601 / 65536 % 65536 ≡ a * 100 + x
+    times x a h k =
+        let q : (x * 65536 + a) * 6553601 / 65536 ≡ 6553601 * x + 100 * a = omega arith in
+        ap (λ n. n % 65536) q ∙ omega arith
 
 module _ (clock fraction : ℕ) (hc : clock < 2 ^ 64) (hf : fraction < 2 ^ 32) where
   abbrev first : List ℕ
@@ -213,15 +235,6 @@ module _ (clock fraction : ℕ) (hc : clock < 2 ^ 64) (hf : fraction < 2 ^ 32) w
       near-rest : AllNear fractionShape (gaps fractionShape rest)
       near-rest = let r = rests in (r .0, (r .1 .0, (r .1 .1 .0, (r .1 .1 .1, tt))))
 
-      bytes-rest : AllLe 255 (gaps fractionShape rest)
-      bytes-rest =
-          let r = rests in
-          let a = r .0 in
-          let b = r .1 .0 in
-          let c = r .1 .1 .0 in
-          let d = r .1 .1 .1 in
-          omega arith
-
       pub first-small : bitXor clock (word toSecondShape) < 2 ^ 60
       first-small = omega (arith, gap-word held-first, word-le 9 (gaps toSecondShape first) 8 (omega arith) nines-first)
 
@@ -249,26 +262,29 @@ module _ (clock fraction : ℕ) (hc : clock < 2 ^ 64) (hf : fraction < 2 ^ 32) w
       pair-is : (k : ℕ) → pairOf (bitXor clock (word toSecondShape)) k ≡ g k * 10 + g (suc k)
       pair-is k = ap (λ v. pairOf v k) (gap-word held-first) ∙ pair-at (gaps toSecondShape first) k nines-first
 
-      byte-is : (k : ℕ) → byteOf (bitXor fraction (word fractionShape)) k ≡ f k
-      byte-is k = ap (λ w. byteOf w k) (gap-word held-rest) ∙ byte-at (gaps fractionShape rest) k bytes-rest
+      -- the decimals, the first of which is 0 in place of the point
+      pub rest-small : bitXor fraction (word fractionShape) < 2 ^ 28
+      rest-small = omega (arith, gap-word held-rest, rests .0, rests .1 .0, rests .1 .1 .0, rests .1 .1 .1)
 
       pub words-stamp :
-          {hour minute second thousandths : ℕ} →
+          {hour minute second : ℕ} →
           hour ≡ pairOf (bitXor clock (word toSecondShape)) 0 → minute ≡ pairOf (bitXor clock (word toSecondShape)) 3 →
-          second ≡ pairOf (bitXor clock (word toSecondShape)) 6 → thousandths ≡ numberOf (bitXor fraction (word fractionShape)) 4 →
-          hour * 3600000 + ((minute * 60 + second) * 1000 + thousandths) ≡ stampOf whole
-      words-stamp {hour} {minute} {second} {thousandths} h m s t =
+          second ≡ pairOf (bitXor clock (word toSecondShape)) 6 →
+          hour * 3600000 + (minute * 60 + second) * 1000 + thousandths (bitXor fraction (word fractionShape)) ≡ stampOf whole
+      words-stamp {hour} {minute} {second} h m s =
           let a : hour ≡ g 0 * 10 + g 1 = h ∙ pair-is 0 in
           let b : minute ≡ g 3 * 10 + g 4 = m ∙ pair-is 3 in
           let c : second ≡ g 6 * 10 + g 7 = s ∙ pair-is 6 in
-          let d : thousandths ≡ (((0 * 10 + f 0) * 10 + f 1) * 10 + f 2) * 10 + f 3 = t ∙ (λ i. (((0 * 10 + byte-is 0 i) * 10 + byte-is 1 i) * 10 + byte-is 2 i) * 10 + byte-is 3 i) in
-          let e : hour * 3600000 + ((minute * 60 + second) * 1000 + thousandths) ≡ positionOf whole = omega (
+          let k = thousandths (bitXor fraction (word fractionShape)) in
+          let w : bitXor fraction (word fractionShape) ≡ ((f 3 * 256 + f 2) * 256 + f 1) * 256 = gap-word held-rest ∙ omega (arith, rests .0) in
+          let d : k ≡ f 1 * 100 + f 2 * 10 + f 3 =
+          ap thousandths w ∙ decimals-are (f 1) (f 2) (f 3) (rests .1 .0) (rests .1 .1 .0) (rests .1 .1 .1) in
+          let e : hour * 3600000 + (minute * 60 + second) * 1000 + k ≡ positionOf whole = omega (
             arith,
             a,
             b,
             c,
             d,
-            rests .0,
             digit-first 0,
             digit-first 1,
             digit-first 3,

@@ -1,23 +1,50 @@
 -- What the code finds out about a line, from where its blanks begin and end.
 use Prim.Native.Nat.{ℕ, _+_, _-_, _≤_, _<_}
 use mathlib.Core.Path.{_≡_, refl, sym, ap, ap₂, _∙_}
-use mathlib.Core.Bool.{Bool, true, false, cond, _&&_, and-false}
-use mathlib.Core.List.{List, [], _∷_}
+use mathlib.Core.Bool.{Bool, true, false, cond, _&&_}
+use mathlib.Core.List.{List, _++_}
 use native.Mathlib.Omega.{arith}
-use borrow.Author.Tests.{lt-ltb, le-ltb, eq-eqb, ne-eqb}
-use lib.Dec.{eqb, ltb}
-use lib.ListN.{length, getD, take, drop, length-take, length-drop}
+use borrow.Author.Tests.{lt-ltb, le-ltb}
+use lib.Dec.{ltb}
+use lib.ListN.{length, take, drop, length-append, length-take, length-drop}
 use lib.Seq.{take-all}
 use Rattle.refusal.specs.Outcome.{Outcome, refused}
+use Rattle.numbers.proofs.Bools.{no-both, and-left, and-right}
 use Rattle.labels.specs.Digits.{fits}
-use Rattle.labels.specs.CueLines.{arrow}
-use Rattle.labels.specs.Timings.{run, firstEnd, arrowAt, secondAt, hasArrow, firstOf, secondOf}
+use Rattle.labels.specs.Words.{partOf}
+use Rattle.labels.specs.Timestamps.{isTimestamp}
+use Rattle.labels.specs.CueLines.{arrow, CueLine}
+use Rattle.labels.specs.Timings.{run, firstEnd, arrowAt, secondAt, hasArrow, firstOf, secondOf, FirstEnd, some-blanks, is-cue}
 use Rattle.labels.specs.Cues.{cueAnswer}
 use Rattle.labels.specs.Stamps.{stampOf, cueOfStamps}
 use Rattle.labels.specs.declared.webvtt.Cue.{Cue}
-use Rattle.labels.proofs.Words.{part-three}
 use Rattle.labels.proofs.Shapes.{uneven}
+use Rattle.labels.proofs.StampNumbers.{no-stamp}
+use Rattle.labels.proofs.StampRead.{stamp-length}
+use Rattle.labels.proofs.CueParts.{no-cue-line}
 use Rattle.labels.proofs.CueStamps.{by-cuts}
+
+-- a cue line has 23 bytes or more
+pub few-bytes-line : (line : List ℕ) → length line < 23 → refused 13 ≡ cueAnswer line
+few-bytes-line line few =
+    sym (no-cue-line line (λ first second c.
+    let a = least first (c .first-is) in
+    let b = least second (c .second-is) in
+    let l = ap length (c .line-is) ∙ length-append first (c .before ++ (arrow ++ (c .behind ++ second))) in
+    omega (
+      arith,
+      few,
+      a,
+      b,
+      l,
+      length-append (c .before) (arrow ++ (c .behind ++ second)),
+      length-append (c .behind) second,
+      some-blanks (c .before) (c .blanks-before),
+      some-blanks (c .behind) (c .blanks-behind),
+    )))
+  where
+    least : (text : List ℕ) → isTimestamp text ≡ true → 9 ≤ length text
+    least text t = stamp-length text t (λ e. omega (arith, e)) (λ h. omega arith)
 
 module _ (line : List ℕ) where
   abbrev read-both : Outcome Cue
@@ -26,69 +53,75 @@ module _ (line : List ℕ) where
   no-arrow : hasArrow line ≡ false → refused 13 ≡ cueAnswer line
   no-arrow e = sym (by-cuts line ∙ ap (λ t. cond t read-both (refused 13)) e)
 
-  module _ {a p : ℕ} (ea : a ≡ 0 + run false line) (ep : p ≡ a + run true (drop a line)) where
-    at-first : a ≡ firstEnd line
-    at-first = omega (arith, ea)
+  -- the first bytes are no timestamp
+  no-first : isTimestamp (firstOf line) ≡ false → refused 13 ≡ cueAnswer line
+  no-first e =
+      sym (no-cue-line line (λ first second c.
+      no-both (isTimestamp (firstOf line)) (and-left (isTimestamp (firstOf line)) _ (and-right (hasArrow line) _ (is-cue line first second c))) e))
 
-    at-arrow : p ≡ arrowAt line
-    at-arrow = ep ∙ ap (λ a. a + run true (drop a line)) at-first
+  module _ {a p : ℕ} (first : FirstEnd line a) (ep : p ≡ a + run true (drop a line)) where
+    -- what is 13 where a timestamp ends there is 13 where there is none
+    if-first : (a ≡ firstEnd line → refused 13 ≡ cueAnswer line) → refused 13 ≡ cueAnswer line
+    if-first f = go (isTimestamp (firstOf line)) refl
+      where
+        go : (t : Bool) → isTimestamp (firstOf line) ≡ t → refused 13 ≡ cueAnswer line
+        go true e = f (first .if-there e)
+        go false e = no-first e
+
+    at-arrow : a ≡ firstEnd line → p ≡ arrowAt line
+    at-arrow e = ep ∙ ap (λ a. a + run true (drop a line)) e
 
     -- no blank in front of the arrow
     pub glued-front : p ≡ a → refused 13 ≡ cueAnswer line
-    glued-front e =
-        no-arrow (ap (λ t. t && (fits arrow (take 3 (drop (arrowAt line) line)) && ltb (arrowAt line + 3) (secondAt line)))
-        (le-ltb (firstEnd line) (arrowAt line) (omega (arith, at-first, at-arrow, e))))
+    glued-front g =
+        if-first (λ e. no-arrow (ap (λ t. t && (fits arrow (take 3 (drop (arrowAt line) line)) && ltb (arrowAt line + 3) (secondAt line)))
+        (le-ltb (firstEnd line) (arrowAt line) (omega (arith, e, at-arrow e, g)))))
 
     module _ (apart : p ≡ a → ⊥) where
-      before : ltb (firstEnd line) (arrowAt line) ≡ true
-      before = lt-ltb (firstEnd line) (arrowAt line) (omega (arith, apart, ep, at-first, at-arrow))
+      before : a ≡ firstEnd line → ltb (firstEnd line) (arrowAt line) ≡ true
+      before e = lt-ltb (firstEnd line) (arrowAt line) (omega (arith, apart, ep, e, at-arrow e))
 
-      no-mark : fits arrow (take 3 (drop p line)) ≡ false → refused 13 ≡ cueAnswer line
-      no-mark e =
-          no-arrow (ap₂ _&&_ before (ap (λ t. t && ltb (arrowAt line + 3) (secondAt line)) (sym (ap (λ p. fits arrow (take 3 (drop p line))) at-arrow) ∙ e)))
+      pub no-mark : {t : Bool} → t ≡ fits arrow (partOf p 3 line) → t ≡ false → refused 13 ≡ cueAnswer line
+      no-mark m n =
+          if-first (λ e. no-arrow (ap₂ _&&_ (before e)
+          (ap (λ t. t && ltb (arrowAt line + 3) (secondAt line)) (sym (ap (λ p. fits arrow (partOf p 3 line)) (at-arrow e)) ∙ sym m ∙ n))))
 
       pub cut-short : length line - p < 3 → refused 13 ≡ cueAnswer line
-      cut-short l = no-mark (uneven arrow (take 3 (drop p line)) (λ e. omega (arith, l, e, length-take 3 (drop p line), length-drop p line)))
+      cut-short l = no-mark refl (uneven arrow (partOf p 3 line) (λ e. omega (arith, l, e, length-take 3 (drop p line), length-drop p line)))
 
-      module _ (l : 3 ≤ length line - p) where
-        arrow-is : fits arrow (take 3 (drop p line)) ≡ eqb (getD line p 0) 45 && (eqb (getD line (p + 1) 0) 45 && (eqb (getD line (p + 2) 0) 62 && true))
-        arrow-is = ap (fits arrow) (part-three p line (omega arith))
+      module _ {t : Bool} (m : t ≡ fits arrow (partOf p 3 line)) (y : t ≡ true) {q : ℕ} (eq : q ≡ p + 3 + run true (drop (p + 3) line)) where
+        there : a ≡ firstEnd line → fits arrow (take 3 (drop (arrowAt line) line)) ≡ true
+        there e = sym (ap (λ p. fits arrow (partOf p 3 line)) (at-arrow e)) ∙ sym m ∙ y
 
-        pub other-first : (getD line p 0 ≡ 45 → ⊥) → refused 13 ≡ cueAnswer line
-        other-first h = no-mark (arrow-is ∙ ap (λ t. t && (eqb (getD line (p + 1) 0) 45 && (eqb (getD line (p + 2) 0) 62 && true))) (ne-eqb (getD line p 0) 45 h))
+        at-second : a ≡ firstEnd line → q ≡ secondAt line
+        at-second e = eq ∙ ap (λ p. p + 3 + run true (drop (p + 3) line)) (at-arrow e)
 
-        module _ (x : getD line p 0 ≡ 45) where
-          pub other-second : (getD line (p + 1) 0 ≡ 45 → ⊥) → refused 13 ≡ cueAnswer line
-          other-second h =
-              no-mark (arrow-is
-              ∙ ap₂ (λ s t. s && (t && (eqb (getD line (p + 2) 0) 62 && true))) (eq-eqb (getD line p 0) 45 x) (ne-eqb (getD line (p + 1) 0) 45 h))
+        -- no blank behind the arrow
+        pub glued-back : q ≡ p + 3 → refused 13 ≡ cueAnswer line
+        glued-back g =
+            if-first (λ e. no-arrow (ap₂ _&&_ (before e)
+            (ap₂ _&&_ (there e) (le-ltb (arrowAt line + 3) (secondAt line) (omega (arith, at-arrow e, at-second e, g))))))
 
-          module _ (y : getD line (p + 1) 0 ≡ 45) where
-            pub other-third : (getD line (p + 2) 0 ≡ 62 → ⊥) → refused 13 ≡ cueAnswer line
-            other-third h =
-                no-mark (arrow-is
-                ∙ (λ i. eq-eqb (getD line p 0) 45 x i && (eq-eqb (getD line (p + 1) 0) 45 y i && (ne-eqb (getD line (p + 2) 0) 62 h i && true))))
+        pub both-read :
+            (q ≡ p + 3 → ⊥) → {m n : ℕ} → m ≡ stampOf (take a line) → n ≡ stampOf (take (length line - q) (drop q line)) →
+            cueOfStamps m n ≡ cueAnswer line
+        both-read h {m} {n} f g = go (isTimestamp (take a line)) refl
+          where
+            read : a ≡ firstEnd line → cueOfStamps m n ≡ cueAnswer line
+            read e =
+                ap₂ cueOfStamps (f ∙ ap (λ a. stampOf (take a line)) e)
+                (g ∙ ap stampOf (take-all (length line - q) (drop q line) (omega (arith, length-drop q line))) ∙ ap (λ q. stampOf (drop q line)) (at-second e))
+                ∙ sym (by-cuts line
+                ∙ ap (λ t. cond t read-both (refused 13))
+                (ap₂ _&&_ (before e) (ap₂ _&&_ (there e) (lt-ltb (arrowAt line + 3) (secondAt line) (omega (arith, h, eq, at-arrow e, at-second e))))))
 
-            module _ (z : getD line (p + 2) 0 ≡ 62) {q : ℕ} (eq : q ≡ p + 3 + run true (drop (p + 3) line)) where
-              there : fits arrow (take 3 (drop (arrowAt line) line)) ≡ true
-              there =
-                  sym (ap (λ p. fits arrow (take 3 (drop p line))) at-arrow) ∙ arrow-is
-                  ∙ (λ i. eq-eqb (getD line p 0) 45 x i && (eq-eqb (getD line (p + 1) 0) 45 y i && (eq-eqb (getD line (p + 2) 0) 62 z i && true)))
-
-              at-second : q ≡ secondAt line
-              at-second = eq ∙ ap (λ p. p + 3 + run true (drop (p + 3) line)) at-arrow
-
-              -- no blank behind the arrow
-              pub glued-back : q ≡ p + 3 → refused 13 ≡ cueAnswer line
-              glued-back e =
-                  no-arrow (ap₂ _&&_ before (ap₂ _&&_ there (le-ltb (arrowAt line + 3) (secondAt line) (omega (arith, at-arrow, at-second, e)))))
-
-              pub both-read :
-                  (q ≡ p + 3 → ⊥) → {m n : ℕ} → m ≡ stampOf (take a line) → n ≡ stampOf (take (length line - q) (drop q line)) →
-                  cueOfStamps m n ≡ cueAnswer line
-              both-read h f g =
-                  let w : drop q line ≡ take (length line - q) (drop q line) = sym (take-all (length line - q) (drop q line) (omega (arith, length-drop q line))) in
-                  ap₂ cueOfStamps (f ∙ ap (λ a. stampOf (take a line)) at-first) (g ∙ ap stampOf (sym w) ∙ ap (λ q. stampOf (drop q line)) at-second)
-                  ∙ sym (by-cuts line
-                  ∙ ap (λ t. cond t read-both (refused 13))
-                  (ap₂ _&&_ before (ap₂ _&&_ there (lt-ltb (arrowAt line + 3) (secondAt line) (omega (arith, h, eq, at-arrow, at-second))))))
+            -- where no timestamp is read there is none
+            go : (t : Bool) → isTimestamp (take a line) ≡ t → cueOfStamps m n ≡ cueAnswer line
+            go true e = read (first .if-taken e)
+            go false e =
+                ap (λ m. cueOfStamps m n) (f ∙ sym (no-stamp (take a line) (λ t. no-both (isTimestamp (take a line)) t e)))
+                ∙ none-there (isTimestamp (firstOf line)) refl
+              where
+                none-there : (t : Bool) → isTimestamp (firstOf line) ≡ t → refused 13 ≡ cueAnswer line
+                none-there true t = no-both (isTimestamp (take a line)) (ap (λ a. isTimestamp (take a line)) (first .if-there t) ∙ t) e
+                none-there false t = no-first t

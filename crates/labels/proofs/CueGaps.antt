@@ -1,10 +1,10 @@
--- The arrow between one space on each side, as the code finds it.
+-- The arrow, and the arrow between one space on each side, as the code finds them.
 use Prim.Native.Nat.{ℕ, _+_, _*_, _≤_}
-use mathlib.Core.Path.{_≡_, refl, sym, ap, _∙_}
+use mathlib.Core.Path.{_≡_, refl, sym, ap, ap₂, _∙_}
 use mathlib.Core.Bool.{Bool, true, false, _&&_, and-true}
 use mathlib.Core.List.{List, [], _∷_, _++_}
 use native.Mathlib.Omega.{arith}
-use borrow.Author.Tests.{eqb-true, ne-eqb}
+use borrow.Author.Tests.{eqb-true, eq-eqb, ne-eqb}
 use lib.Dec.{eqb}
 use lib.ListN.{length, getD}
 use mir.Syntax.{w8}
@@ -12,8 +12,9 @@ use mir.Val.{Fits}
 use Rattle.numbers.proofs.Bools.{and-left, and-right}
 use Rattle.labels.specs.Digits.{fits}
 use Rattle.labels.specs.Words.{word, bytesOf, partOf}
+use Rattle.labels.specs.CueLines.{arrow}
 use Rattle.labels.specs.Timings.{usualGap}
-use Rattle.labels.proofs.Words.{bytes, all-bytes, part-length, part-le, part-four, part-five}
+use Rattle.labels.proofs.Words.{bytes, all-bytes, part-length, part-le, part-three, part-four, part-five}
 
 module _ (line : List ℕ) (at : ℕ) (h : at + 5 ≤ length line) where
   abbrev x : ℕ
@@ -55,3 +56,23 @@ module _ (line : List ℕ) (at : ℕ) (h : at + 5 ≤ length line) where
           absurd (never (e ∙ ap word four
           ∙ omega (arith, eqb-true x 32 (and-left (eqb x 32) _ p), eqb-true y 45 (and-left (eqb y 45) _ q), eqb-true z 45 (and-left (eqb z 45) _ r), eqb-true w 62 (and-left (eqb w 62) _ s))))
       go false f = refl
+
+-- the arrow, byte by byte
+module _ (line : List ℕ) (at : ℕ) (h : at + 3 ≤ length line) where
+  arrow-is : fits arrow (partOf at 3 line) ≡ eqb (getD line at 0) 45 && (eqb (getD line (at + 1) 0) 45 && (eqb (getD line (at + 2) 0) 62 && true))
+  arrow-is = ap (fits arrow) (part-three at line h)
+
+  pub other-first : (getD line at 0 ≡ 45 → ⊥) → false ≡ fits arrow (partOf at 3 line)
+  other-first f =
+      sym (arrow-is ∙ ap (λ t. t && (eqb (getD line (at + 1) 0) 45 && (eqb (getD line (at + 2) 0) 62 && true))) (ne-eqb (getD line at 0) 45 f))
+
+  module _ (x : getD line at 0 ≡ 45) where
+    pub other-second : (getD line (at + 1) 0 ≡ 45 → ⊥) → false ≡ fits arrow (partOf at 3 line)
+    other-second f =
+        sym (arrow-is
+        ∙ ap₂ (λ s t. s && (t && (eqb (getD line (at + 2) 0) 62 && true))) (eq-eqb (getD line at 0) 45 x) (ne-eqb (getD line (at + 1) 0) 45 f))
+
+    pub third-tells : getD line (at + 1) 0 ≡ 45 → eqb (getD line (at + 2) 0) 62 ≡ fits arrow (partOf at 3 line)
+    third-tells y =
+        sym (arrow-is ∙ ap₂ (λ s t. s && (t && (eqb (getD line (at + 2) 0) 62 && true))) (eq-eqb (getD line at 0) 45 x) (eq-eqb (getD line (at + 1) 0) 45 y)
+        ∙ and-true (eqb (getD line (at + 2) 0) 62))

@@ -1,6 +1,6 @@
 -- The number that the code makes of a timestamp.
 use Prim.Native.Nat.{ℕ, _≤_, _<_}
-use mathlib.Core.Path.{_≡_, refl, sym, ap, ap₂, _∙_}
+use mathlib.Core.Path.{_≡_, refl, sym, ap, ap₂, _∙_, subst}
 use mathlib.Core.Bool.{Bool, true, false, cond}
 use mathlib.Core.List.{List}
 use native.Mathlib.Omega.{arith}
@@ -51,9 +51,12 @@ by-stamp {G} text none-there high given = go (isTimestamp text) (outside (pos 0)
     go true false e f =
         given e f (ap₂ (λ t o. cond t (cond o beyond (positionOf text)) wrong) e f) (natural-within 0 lastPosition (pos (positionOf text)) f .high)
 
-pub stamp-of : (text : List ℕ) → Stamp (stampOf text)
+stamp-of : (text : List ℕ) → Stamp (stampOf text)
 stamp-of text =
     by-stamp text (λ t e. no-timestamp e) (λ t o e. above-limit e) (λ t o e l. in-range (omega (arith, e, l)))
+
+pub stamped : {n : ℕ} (text : List ℕ) → n ≡ stampOf text → Stamp n
+stamped text e = subst Stamp (sym e) (stamp-of text)
 
 -- ---- what the number tells of the position
 

@@ -48,6 +48,11 @@ firstOf line = take (firstEnd line) line
 abbrev pub secondOf : (line : List ℕ) → List ℕ
 secondOf line = drop (secondAt line) line
 
+-- where the first timestamp ends, if there is one: where it is taken to end, it does
+pub record FirstEnd (line : List ℕ) (at : ℕ) : Type 0 where
+  pub if-there : isTimestamp (firstOf line) ≡ true → at ≡ firstEnd line
+  pub if-taken : isTimestamp (take at line) ≡ true → at ≡ firstEnd line
+
 abbrev pub isCueLine : (line : List ℕ) → Bool
 isCueLine line = hasArrow line && (isTimestamp (firstOf line) && isTimestamp (secondOf line))
 
@@ -99,7 +104,7 @@ front-solid front h = go (eqb (length front) 0) refl h
         fits-solid (digits 0 n ++ colon ∷ []) front (all-append false (digits 0 n) (colon ∷ []) (zeros-solid n) (refl, tt))
         (and-right (leb 2 n) (fits (digits 0 n ++ colon ∷ []) front) h)
 
-stamp-solid : (text : List ℕ) → isTimestamp text ≡ true → AllAre false text
+pub stamp-solid : (text : List ℕ) → isTimestamp text ≡ true → AllAre false text
 stamp-solid text h =
     subst (AllAre false) (take-append-drop (length text - 9) text)
     (all-append false (inFront text) (lastNine text)
@@ -124,7 +129,7 @@ blanks-all : (text : List ℕ) → areBlanks text ≡ true → AllAre true text
 blanks-all [] h = tt
 blanks-all (b ∷ bs) h = blank-all (b ∷ bs) h
 
-some-blanks : (text : List ℕ) → areBlanks text ≡ true → 0 < length text
+pub some-blanks : (text : List ℕ) → areBlanks text ≡ true → 0 < length text
 some-blanks [] h = no-both false h refl
 some-blanks (b ∷ bs) h = omega arith
 
@@ -149,7 +154,7 @@ run-blank (b ∷ bs) = go (isBlank b) refl (run-blank bs)
     go true e h = ap₂ _&&_ e h
     go false e h = refl
 
-run-le : (k : Bool) (text : List ℕ) → run k text ≤ length text
+pub run-le : (k : Bool) (text : List ℕ) → run k text ≤ length text
 run-le k [] = omega arith
 run-le k (b ∷ bs) = step (same k (isBlank b)) (run-le k bs)
   where

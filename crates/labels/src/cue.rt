@@ -6,12 +6,26 @@ ghost use Prim.Native.Nat.{_+_, _≤_};
 ghost use lib.ListN.{length, drop};
 ghost use Rattle.labels.specs.Digits.{fits};
 ghost use Rattle.labels.specs.Words.{partOf};
-ghost use Rattle.labels.specs.CueLines.{isBlank};
-ghost use Rattle.labels.specs.Timings.{run, usualGap};
+ghost use Rattle.labels.specs.CueLines.{isBlank, arrow};
+ghost use Rattle.labels.specs.Timings.{run, usualGap, FirstEnd};
 
 const SPACE: u8 = b' ';
 
 const TAB: u8 = b'\t';
+
+// Whether `-->` stands from byte `at` of a line on.
+pub fn has_arrow(line: &[u8], at: usize) -> bool
+    requires { ⌜ at + 3 ≤ length (now line) ⌝ }
+    ensures { λ r. ⌜ r ≡ fits arrow (partOf at 3 (now (line .entry))) ⌝ }
+{
+    if line[at] != b'-' {
+        return false;
+    }
+    if line[at + 1] != b'-' {
+        return false;
+    }
+    line[at + 2] == b'>'
+}
 
 // Whether ` --> ` stands from byte `at` of a line on.
 pub fn has_gap(line: &[u8], at: usize) -> bool
@@ -19,6 +33,20 @@ pub fn has_gap(line: &[u8], at: usize) -> bool
     ensures { λ r. ⌜ r ≡ fits usualGap (partOf at 5 (now (line .entry))) ⌝ }
 {
     digits::four_bytes(line, at) == 0x3e2d_2d20 && line[at + 4] == SPACE
+}
+
+// Where the first timestamp of a line ends, if it begins with one: a timestamp has nine bytes, or twelve and more.
+pub fn first_end(line: &[u8]) -> usize
+    requires { ⌜ 13 ≤ length (now line) ⌝ }
+    ensures { λ r. ⌜ FirstEnd (now (line .entry)) r × (r ≤ length (now (line .entry))) ⌝ }
+{
+    if is_blank(line[9]) {
+        return 9;
+    }
+    if is_blank(line[12]) {
+        return 12;
+    }
+    run_end(line, 13, false)
 }
 
 // The end of the blanks, or of the bytes that are none, from byte `from` of a line on.

@@ -41,8 +41,21 @@ const MS_PER_HUNDRED_HOURS: u64 = 360000000;
 
 const LAST_HUNDRED: u64 = 999;
 
-// The position of a timestamp, WRONG or BEYOND.
+// The position of a timestamp, WRONG or BEYOND: the two usual lengths first.
 pub fn read(text: &[u8]) -> u64
+    ensures { λ r. ⌜ r ≡ stampOf (now (text .entry)) ⌝ }
+{
+    if text.len() == 12 {
+        return full(text, 0);
+    }
+    if text.len() == 9 {
+        return short(text, 0);
+    }
+    read_any(text)
+}
+
+// The same of any length.
+pub fn read_any(text: &[u8]) -> u64
     ensures { λ r. ⌜ r ≡ stampOf (now (text .entry)) ⌝ }
 {
     let n = text.len();
@@ -105,8 +118,10 @@ fn of_words(clock: u64, fraction: u64) -> u64
         return WRONG;
     }
     let seconds = digits::pair(v, 3) * SECONDS_PER_MINUTE + digits::pair(v, 6);
-    let rest = seconds * MS_PER_SECOND + digits::number(w, 4);
-    digits::pair(v, 0) as u64 * MS_PER_HOUR + rest as u64
+    // The first decimal stands in the lowest byte of the pairs, and the other two as one in the third: 100 times the first is added.
+    let pairs = w * 10 + w / 256;
+    let thousandths = (pairs & 0xff_00ff) * 0x64_0001 / 0x1_0000 % 0x1_0000;
+    digits::pair(v, 0) as u64 * MS_PER_HOUR + (seconds * MS_PER_SECOND) as u64 + thousandths
 }
 
 // The number of the first digits of a text, of which what is above 999 stays so; WRONG if they are no digits.

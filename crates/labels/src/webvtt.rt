@@ -46,6 +46,9 @@ const MS_PER_SECOND: u32 = 1000;
 
 const SECONDS_PER_MINUTE: u32 = 60;
 
+// Two timestamps without hours, a blank each side of the arrow, and the arrow.
+const SHORTEST_LINE: usize = 23;
+
 // Writes the label of a position. 6 for a position outside the range, then 7 for a buffer shorter than the label.
 pub fn write_position(position: i64, out: &mut [u8]) -> WriteAnswer
     ensures answer { λ r. ⌜ writeOutcome r ≡ bytesWritten (positionLabel position) (now (out .entry)) ⌝ }
@@ -165,7 +168,10 @@ pub fn read_cue(line: &[u8]) -> CueAnswer
 fn read_any_cue(line: &[u8]) -> CueAnswer
     ensures { λ r. ⌜ cueOutcome r ≡ cueAnswer (now (line .entry)) ⌝ }
 {
-    let first_end = cue::run_end(line, 0, false);
+    if line.len() < SHORTEST_LINE {
+        return malformed();
+    }
+    let first_end = cue::first_end(line);
     let arrow = cue::run_end(line, first_end, true);
     if arrow == first_end {
         return malformed();
@@ -173,13 +179,7 @@ fn read_any_cue(line: &[u8]) -> CueAnswer
     if line.len() - arrow < 3 {
         return malformed();
     }
-    if line[arrow] != b'-' {
-        return malformed();
-    }
-    if line[arrow + 1] != b'-' {
-        return malformed();
-    }
-    if line[arrow + 2] != b'>' {
+    if !cue::has_arrow(line, arrow) {
         return malformed();
     }
     let arrow_end = arrow + 3;
@@ -188,8 +188,8 @@ fn read_any_cue(line: &[u8]) -> CueAnswer
         return malformed();
     }
     cue_of(
-        timestamp::read(&line[..first_end]),
-        timestamp::read(&line[second..]),
+        timestamp::read_any(&line[..first_end]),
+        timestamp::read_any(&line[second..]),
     )
 }
 

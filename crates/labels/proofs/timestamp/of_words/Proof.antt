@@ -1,5 +1,7 @@
+use Prim.Native.Nat.{_+_, _*_, _/_}
 use native.Mathlib.Omega.{arith}
-use Rattle.labels.proofs.ClockWords.{high-byte, first-sum, rest-sum, no-room, first-small, words-stamp}
+use lib.Bits.{bitXor, and-le-r}
+use Rattle.labels.proofs.ClockWords.{high-byte, first-sum, rest-sum, no-room, first-small, rest-small, words-stamp}
 use borrow.Author.Needs.{needs}
 use Rattle.labels.proofs.timestamp.of_words.Statement.{statement}
 use Rattle.labels.proofs.timestamp.of_words.Tie as tie
@@ -40,19 +42,26 @@ pair-requires-2 c κs =
 add-seconds : tie.Need-add-seconds
 add-seconds c = search needs
 
-mul-rest : tie.Need-mul-rest
-mul-rest c = search needs
+mul-pairs : tie.Need-mul-pairs
+mul-pairs c =
+    let s = c .before .before .before .before in
+    record { fits = omega (arith, rest-small (s .args .clock) (s .args .fraction) (s .fits .clock .fits) (s .pre) (c .before .before .before .if1 .left) (c .before .before .if2 .left)) }
 
-number-requires : tie.Need-number-requires
-number-requires c κs = search needs
+add-pairs : tie.Need-add-pairs
+add-pairs c =
+    let s = c .before .before .before .before in
+    record { fits = omega (arith, rest-small (s .args .clock) (s .args .fraction) (s .fits .clock .fits) (s .pre) (c .before .before .before .if1 .left) (c .before .before .if2 .left)) }
 
-add-rest : tie.Need-add-rest
-add-rest c = search needs
+mul-thousandths : tie.Need-mul-thousandths
+mul-thousandths c =
+    let s = c .before .before .before .before in
+    let w = bitXor (s .args .fraction) 808464430 in
+    record { fits = omega (arith, and-le-r (w * 10 + w / 256) 16711935) }
 
 pair-requires-3 : tie.Need-pair-requires-3
 pair-requires-3 c κs =
-    let s = c .before .before .before .before .before in
-    (first-small (s .args .clock) (s .args .fraction) (s .fits .clock .fits) (s .pre) (c .before .before .before .before .if1 .left) (c .before .before .before .if2 .left), omega arith)
+    let s = c .before .before .before .before in
+    (first-small (s .args .clock) (s .args .fraction) (s .fits .clock .fits) (s .pre) (c .before .before .before .if1 .left) (c .before .before .if2 .left), omega arith)
 
 cast-result : tie.Need-cast-result
 cast-result c = search needs
@@ -60,17 +69,23 @@ cast-result c = search needs
 mul-result : tie.Need-mul-result
 mul-result c = search needs
 
+mul-result-2 : tie.Need-mul-result-2
+mul-result-2 c = search needs
+
 cast-result-2 : tie.Need-cast-result-2
 cast-result-2 c = search needs
 
 add-result : tie.Need-add-result
 add-result c = search needs
 
+add-result-2 : tie.Need-add-result-2
+add-result-2 c = search needs
+
 returns-3 : tie.Need-returns-3
 returns-3 c =
-    let s = c .before .before .before .before .before .before in
-    words-stamp (s .args .clock) (s .args .fraction) (s .fits .clock .fits) (s .pre) (c .before .before .before .before .before .if1 .left) (c .before .before .before .before .if2 .left)
-    (c .pair3 .ensures) (c .before .before .before .pair .ensures) (c .before .before .pair2 .ensures) (c .before .number .ensures)
+    let s = c .before .before .before .before .before in
+    words-stamp (s .args .clock) (s .args .fraction) (s .fits .clock .fits) (s .pre) (c .before .before .before .before .if1 .left) (c .before .before .before .if2 .left)
+    (c .pair3 .ensures) (c .before .before .pair .ensures) (c .before .pair2 .ensures)
 
 pub of-words-spec : {M : Type 1} → statement M
 of-words-spec =
@@ -84,12 +99,14 @@ of-words-spec =
     mul-seconds
     pair-requires-2
     add-seconds
-    mul-rest
-    number-requires
-    add-rest
+    mul-pairs
+    add-pairs
+    mul-thousandths
     pair-requires-3
     cast-result
     mul-result
+    mul-result-2
     cast-result-2
     add-result
+    add-result-2
     returns-3)
