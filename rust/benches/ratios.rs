@@ -319,20 +319,27 @@ fn damaged<const MOST: usize>(random: &mut Random, texts: &[Text<MOST>]) -> Vec<
     damaged
 }
 
+/// Either of two, as often.
+fn either<const MOST: usize>(random: &mut Random, a: &[Text<MOST>], b: &[Text<MOST>]) -> Vec<Text<MOST>> {
+    a.iter().zip(b).map(|(&a, &b)| random.choose(&[a, b])).collect()
+}
+
 fn timing_lines() {
     let random = &mut Random::new(107);
     let without_hours = texts(|| timestamp(some_position(random, 0), 0));
     let with_hours = texts(|| timestamp(some_position(random, 2), 2));
+    let both = either(random, &with_hours, &without_hours);
+    let damaged_texts = damaged(random, &with_hours);
     let of_any_form = texts(|| {
         let digits = some_digits(random);
         timestamp(some_position(random, digits), digits)
     });
-    let damaged_texts = damaged(random, &of_any_form);
     for (what, inputs) in [
-        ("read a position, MM:SS.mmm", &without_hours),
         ("read a position, HH:MM:SS.mmm", &with_hours),
-        ("read a position, of any form", &of_any_form),
+        ("read a position, MM:SS.mmm", &without_hours),
+        ("read a position, either", &both),
         ("read a position, 1 in 8 damaged", &damaged_texts),
+        ("read a position, hours of any size", &of_any_form),
     ] {
         line::<PositionReader>(
             what,
@@ -344,16 +351,18 @@ fn timing_lines() {
 
     let with_hours = texts(|| some_line(random, [2; 2], 1));
     let without_hours = texts(|| some_line(random, [0; 2], 1));
+    let both = either(random, &with_hours, &without_hours);
+    let damaged_lines = damaged(random, &with_hours);
     let of_any_form = texts(|| {
         let digits = [some_digits(random), some_digits(random)];
         some_line(random, digits, MOST_BLANKS)
     });
-    let damaged_lines = damaged(random, &of_any_form);
     for (what, inputs) in [
         ("read a cue line, with hours", &with_hours),
         ("read a cue line, without hours", &without_hours),
-        ("read a cue line, of any form", &of_any_form),
+        ("read a cue line, either", &both),
         ("read a cue line, 1 in 8 damaged", &damaged_lines),
+        ("read a cue line, any hours and blanks", &of_any_form),
     ] {
         line::<CueReader>(what, &Inputs::of(inputs), raw::ovenquill_read_cue, &[(BY_HAND, labels::read_cue)]);
     }

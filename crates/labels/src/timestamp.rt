@@ -48,10 +48,10 @@ pub fn read(text: &[u8]) -> u64
     if text.len() == 12 {
         return full(text, 0);
     }
-    if text.len() == 9 {
-        return short(text, 0);
+    if text.len() != 9 {
+        return read_any(text);
     }
-    read_any(text)
+    short(text, 0)
 }
 
 // The same of any length.
