@@ -30,11 +30,11 @@ const FRACTION_ROOM: u64 = 0x7676_767f;
 // `00:` in front of minutes and seconds.
 const NO_HOURS: u64 = 0x3a_3030;
 
-const MS_PER_HOUR: u64 = 3600000;
+pub const MS_PER_HOUR: u64 = 3600000;
 
-const MS_PER_SECOND: u32 = 1000;
+pub const MS_PER_SECOND: u32 = 1000;
 
-const SECONDS_PER_MINUTE: u32 = 60;
+pub const SECONDS_PER_MINUTE: u32 = 60;
 
 // What one more in front of two digits of hours is worth, and the largest number there.
 const MS_PER_HUNDRED_HOURS: u64 = 360000000;

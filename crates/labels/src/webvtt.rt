@@ -10,6 +10,9 @@ use crate::digits::COLON;
 use crate::digits::ZERO;
 use crate::timestamp;
 use crate::timestamp::BEYOND;
+use crate::timestamp::MS_PER_HOUR;
+use crate::timestamp::MS_PER_SECOND;
+use crate::timestamp::SECONDS_PER_MINUTE;
 use crate::timestamp::WRONG;
 use refusal::NumberAnswer;
 use refusal::Refusal;
@@ -39,12 +42,6 @@ pub enum CueAnswer {
 }
 
 const LAST_POSITION: i64 = 359999999999;
-
-const MS_PER_HOUR: u64 = 3600000;
-
-const MS_PER_SECOND: u32 = 1000;
-
-const SECONDS_PER_MINUTE: u32 = 60;
 
 // Two timestamps without hours, a blank each side of the arrow, and the arrow.
 const SHORTEST_LINE: usize = 23;

@@ -1,5 +1,5 @@
 -- The starred rows of document 01, "Numbers to try", as one checked table of theorems about the definitions; then two labels of the
--- other rows.
+-- other rows, and rows of document 02.
 use Prim.Native.Nat.{ℕ, _+_}
 use mathlib.Core.Path.{_≡_, refl, ap, _∙_}
 use mathlib.Core.Bool.{false, cond}
@@ -18,6 +18,9 @@ use Rattle.instant.specs.Instant.{dayOf, timeOf, fieldsOf, fieldsAt}
 use Rattle.instant.specs.Answers.{dayAnswer, splitAnswer}
 use Rattle.labels.specs.Rfc3339.{numbersText, labelText, instantLabel}
 use Rattle.labels.specs.Webvtt.{positionLabel}
+use Rattle.labels.specs.Timestamps.{positionAnswer}
+use Rattle.labels.specs.Cues.{cueOf, cueAnswer}
+use Rattle.labels.proofs.CueParts.{cue-line}
 use Rattle.constants.specs.Difference.{exactQuotient, deviceQuotient, differs}
 use Rattle.constants.specs.Least.{at, leastBelow}
 use Rattle.constants.specs.Limits.{outsideLimits}
@@ -154,3 +157,31 @@ instant-label-row = ap (λ d. value (labelText (fieldsAt d (timeOf (pos 16837290
 pub position-label-row : positionLabel (pos 4287767296) ≡ value (49 ∷ 49 ∷ 57 ∷ 49 ∷ 58 ∷ 48 ∷ 50 ∷ 58 ∷ 52 ∷ 55 ∷ 46 ∷ 50 ∷ 57 ∷ 54 ∷ [])
 unfolding positionLabel
 position-label-row = refl
+
+-- ---- document 02, request One: `01:02.003` reads as 62003 and is written `00:01:02.003`; and a cue line
+
+pub timestamp-row : positionAnswer (48 ∷ 49 ∷ 58 ∷ 48 ∷ 50 ∷ 46 ∷ 48 ∷ 48 ∷ 51 ∷ []) ≡ value (pos 62003)
+unfolding positionAnswer
+timestamp-row = refl
+
+pub written-row : positionLabel (pos 62003) ≡ value (48 ∷ 48 ∷ 58 ∷ 48 ∷ 49 ∷ 58 ∷ 48 ∷ 50 ∷ 46 ∷ 48 ∷ 48 ∷ 51 ∷ [])
+unfolding positionLabel
+written-row = refl
+
+-- `00:01.000 --> 00:02.500`
+pub cue-row :
+    cueAnswer (48 ∷ 48 ∷ 58 ∷ 48 ∷ 49 ∷ 46 ∷ 48 ∷ 48 ∷ 48 ∷ 32 ∷ 45 ∷ 45 ∷ 62 ∷ 32 ∷ 48 ∷ 48 ∷ 58 ∷ 48 ∷ 50 ∷ 46 ∷ 53 ∷ 48 ∷ 48 ∷ [])
+    ≡ value (record { start = pos 1000; end = pos 2500 })
+unfolding cueOf positionAnswer
+cue-row =
+    cue-line (48 ∷ 48 ∷ 58 ∷ 48 ∷ 49 ∷ 46 ∷ 48 ∷ 48 ∷ 48 ∷ 32 ∷ 45 ∷ 45 ∷ 62 ∷ 32 ∷ 48 ∷ 48 ∷ 58 ∷ 48 ∷ 50 ∷ 46 ∷ 53 ∷ 48 ∷ 48 ∷ [])
+    (48 ∷ 48 ∷ 58 ∷ 48 ∷ 49 ∷ 46 ∷ 48 ∷ 48 ∷ 48 ∷ []) (48 ∷ 48 ∷ 58 ∷ 48 ∷ 50 ∷ 46 ∷ 53 ∷ 48 ∷ 48 ∷ [])
+    (record {
+      before = 32 ∷ [];
+      behind = 32 ∷ [];
+      line-is = refl;
+      first-is = refl;
+      blanks-before = refl;
+      blanks-behind = refl;
+      second-is = refl;
+    })
