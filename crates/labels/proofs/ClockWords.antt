@@ -1,26 +1,21 @@
 -- Twelve bytes as two numbers, `HH:MM:SS` and `.mmm`: the tests of the code find out whether they are a timestamp.
 use Prim.Native.Nat.{ℕ, suc, _+_, _-_, _*_, _%_, _/_, _≤_, _<_, _^_}
 use mathlib.Core.Path.{_≡_, refl, sym, ap, ap₂, _∙_, subst}
-use mathlib.Core.Bool.{Bool, true, false, cond, _&&_, _||_}
+use mathlib.Core.Bool.{true, _&&_}
 use mathlib.Core.List.{List, [], _∷_, _++_}
 use native.Mathlib.Omega.{arith}
 use borrow.Author.Tests.{lt-ltb, ltb-true}
 use lib.Bits.{bitAnd, bitOr, bitXor, and-block, and-mask}
 use lib.Dec.{ltb, lit<}
-use lib.IntN.{pos}
-use lib.ListN.{length, getD, take, drop}
-use Rattle.numbers.specs.Range.{outside}
+use lib.ListN.{getD, take, drop}
 use Rattle.numbers.proofs.Bools.{and-left, and-right}
-use Rattle.numbers.proofs.Between.{inside-pos}
 use Rattle.labels.specs.Clock.{colon, point, clockText}
 use Rattle.labels.specs.Digits.{digits, numberAt, fits}
-use Rattle.labels.specs.Words.{word, byteOf, bytesOf, pairOf, numberOf, above}
-use Rattle.labels.specs.Webvtt.{lastPosition}
+use Rattle.labels.specs.Words.{word, bytesOf, pairOf, above}
 use Rattle.labels.specs.Timestamps.{isClock, isTimestamp, positionOf}
-use Rattle.labels.specs.Stamps.{wrong, beyond, stampOf}
-use Rattle.labels.proofs.Words.{AllLe, word-le, byte-at, bytes-le, word-bytes}
-use Rattle.labels.proofs.OneByte.{near-fits, when-fits}
-use Rattle.labels.proofs.Gaps.{gaps, all-fit, values-le}
+use Rattle.labels.specs.Stamps.{wrong, stampOf}
+use Rattle.labels.proofs.Words.{AllLe, word-le, bytes-le, word-bytes}
+use Rattle.labels.proofs.Gaps.{gaps, all-fit}
 use Rattle.labels.proofs.ReadValues.{pair-at}
 use Rattle.labels.proofs.Rooms.{highest, Held, raised, or-none, low-text, text-clear, gap-word, sum-below, roomy, room-clear, AllNear, all-near, near-all-fit, fits-low}
 use Rattle.labels.proofs.Shapes.{fits-append}

@@ -13,7 +13,7 @@ use Rattle.numbers.proofs.Bools.{no-both, and-left, and-right}
 use Rattle.labels.specs.Digits.{fits}
 use Rattle.labels.specs.Words.{partOf}
 use Rattle.labels.specs.Timestamps.{isTimestamp}
-use Rattle.labels.specs.CueLines.{arrow, CueLine}
+use Rattle.labels.specs.CueLines.{arrow}
 use Rattle.labels.specs.Timings.{run, firstEnd, arrowAt, secondAt, hasArrow, firstOf, secondOf, FirstEnd, some-blanks, is-cue}
 use Rattle.labels.specs.Cues.{cueAnswer}
 use Rattle.labels.specs.Stamps.{stampOf, cueOfStamps}

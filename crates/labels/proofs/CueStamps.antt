@@ -1,20 +1,16 @@
 -- The cue of two timestamps, from the numbers that the code makes of them.
-use Prim.Native.Nat.{ℕ, _+_, _-_, _≤_, _<_, _^_}
-use mathlib.Core.Path.{_≡_, refl, sym, ap, ap₂, _∙_, subst}
+use Prim.Native.Nat.{ℕ, _-_, _≤_, _<_, _^_}
+use mathlib.Core.Path.{_≡_, refl, sym, ap, ap₂, _∙_}
 use mathlib.Core.Bool.{Bool, true, false, cond, _&&_, _||_, or-true}
-use mathlib.Core.List.{List, [], _∷_, _++_}
+use mathlib.Core.List.{List}
 use native.Mathlib.Omega.{arith}
 use borrow.Author.Tests.{eqb-false, ne-eqb, lt-ltb, le-ltb}
 use lib.Bits.{bitOr, or-lt, or-add-and, and-le-l, and-le-r}
 use lib.Dec.{eqb, ltb}
-use lib.IntN.{ℤ, pos, natAbs}
+use lib.IntN.{pos}
 use Rattle.refusal.specs.Outcome.{Outcome, value, refused, andThen}
-use Rattle.numbers.specs.Range.{outside}
-use Rattle.numbers.proofs.Bools.{no-both, and-left, and-right}
-use Rattle.numbers.proofs.Between.{natural-within}
-use Rattle.labels.specs.Webvtt.{lastPosition}
+use Rattle.numbers.proofs.Bools.{no-both}
 use Rattle.labels.specs.Timestamps.{isTimestamp, positionOf, positionAnswer}
-use Rattle.labels.specs.CueLines.{CueLine}
 use Rattle.labels.specs.Timings.{hasArrow, firstOf, secondOf, isCueLine, is-cue, parts}
 use Rattle.labels.specs.Cues.{cueOf, cueAnswer}
 use Rattle.labels.specs.Stamps.{wrong, beyond, stampOf, Stamp, no-timestamp, above-limit, in-range, cueOfStamps}

@@ -10,7 +10,7 @@ use lib.Seq.{take-all, drop-drop}
 use Rattle.labels.specs.Digits.{fits}
 use Rattle.labels.specs.Words.{partOf}
 use Rattle.labels.specs.Timestamps.{isTimestamp}
-use Rattle.labels.specs.CueLines.{arrow, CueLine}
+use Rattle.labels.specs.CueLines.{CueLine}
 use Rattle.labels.specs.Timings.{usualGap, marks-fit}
 use Rattle.labels.specs.Cues.{cueAnswer}
 use Rattle.labels.specs.Stamps.{wrong, stampOf, cueOfStamps}

@@ -26,4 +26,5 @@ pub mod CueStamps
 pub mod CueCuts
 pub mod CueUsual
 pub mod ReadBack
+pub mod CueLaws
 pub mod Laws

@@ -1,7 +1,7 @@
--- Timestamps and cue lines read back: round trips, which texts are the same position, refusals, and what an accepted line says.
+-- Timestamps read back: round trips, which texts are the same position, and refusals.
 use Prim.Native.Nat.{ℕ, zero, suc, _+_, _-_, _*_, _/_, _%_, _^_, _≤_, _<_}
 use mathlib.Core.Path.{_≡_, refl, sym, ap, ap₂, _∙_, subst}
-use mathlib.Core.Logic.{_↔_, _⊎_, inl, inr}
+use mathlib.Core.Logic.{_↔_}
 use mathlib.Core.Bool.{Bool, true, false, cond, not, _&&_, _||_, or-true}
 use mathlib.Core.List.{List, [], _∷_, _++_}
 use native.Mathlib.Nat.{div-add-mod', div-div-eq-div-mul, pow-suc, pow-le-pow-right}
@@ -9,10 +9,9 @@ use native.Mathlib.Omega.{arith, by-contra}
 use borrow.Author.Tests.{eqb-true, eqb-false, ltb-true, le-leb, lt-ltb, ne-eqb, not-true}
 use lib.Dec.{eqb, leb, ltb, lit<}
 use lib.IntN.{ℤ, pos, natAbs}
-use lib.Signed.{ltZ}
-use lib.ListN.{length, getD, take, drop, length-append, take-append-drop, List·getD-append}
-use lib.Seq.{length-take-le, append-snoc, take-at, drop-at}
-use Rattle.refusal.specs.Outcome.{Outcome, value, refused, refusedAt, andThen}
+use lib.ListN.{length, getD, take, length-append, take-append-drop, List·getD-append}
+use lib.Seq.{length-take-le, append-snoc, take-at}
+use Rattle.refusal.specs.Outcome.{value, refused}
 use Rattle.refusal.proofs.Outcomes.{clash, passes, same-value}
 use Rattle.numbers.specs.Range.{outside}
 use Rattle.numbers.proofs.Bools.{no-both, and-left, and-right}
@@ -22,15 +21,11 @@ use Rattle.labels.specs.Digits.{digits, number, numberAt, fits}
 use Rattle.labels.specs.Webvtt.{lastPosition, perHour, perMinute, perSecond, hourDigits, clockOf, positionText, positionLabel}
 use Rattle.labels.specs.Timestamps.{lastNine, inFront, isClock, hoursText, areHours, isTimestamp, clockValue, hoursValue, positionOf}
 use Rattle.labels.specs.Timestamps.{hasFullHours, withoutZeros, positionAnswer}
-use Rattle.labels.specs.CueLines.{CueLine, Timing, between, of-none}
-use Rattle.labels.specs.Timings.{timing}
-use Rattle.labels.specs.Cues.{cueOf, timingAnswer, cueAnswer}
-use Rattle.labels.specs.declared.webvtt.Cue.{Cue}
-use Rattle.labels.proofs.Decimal.{number-digits, number-below, length-digits}
+use Rattle.labels.proofs.Decimal.{number-digits, length-digits}
 use Rattle.labels.proofs.DigitWords.{place-100, place-1000}
 use Rattle.labels.proofs.TimestampParts.{clock-parts, hours-text, hours-digits, hours-below, front-cut, nine-cut}
 use Rattle.labels.proofs.Positions.{by-hours, two-to-five, length-position}
-use Rattle.labels.proofs.Shapes.{digits-front, mark-front, fits-both, digits-fit, fits-nothing}
+use Rattle.labels.proofs.Shapes.{fits-both, digits-fit}
 
 -- ---- zeros in front of digits
 
@@ -166,12 +161,12 @@ unfolding positionLabel
 written position label e = let p = passes (outside (pos 0) lastPosition position) 6 _ (sym e) in (p .0, same-value (p .1))
 
 -- a text that was read is a timestamp of a position in the range
-record Accepts (text : List ℕ) (position : ℤ) : Type 0 where
-  a-timestamp : isTimestamp text ≡ true
-  within : outside (pos 0) lastPosition (pos (positionOf text)) ≡ false
-  position-is : position ≡ pos (positionOf text)
+pub record Accepts (text : List ℕ) (position : ℤ) : Type 0 where
+  pub a-timestamp : isTimestamp text ≡ true
+  pub within : outside (pos 0) lastPosition (pos (positionOf text)) ≡ false
+  pub position-is : position ≡ pos (positionOf text)
 
-accepts : (text : List ℕ) (position : ℤ) → positionAnswer text ≡ value position → Accepts text position
+pub accepts : (text : List ℕ) (position : ℤ) → positionAnswer text ≡ value position → Accepts text position
 unfolding positionAnswer
 accepts text position = go (isTimestamp text) (outside (pos 0) lastPosition (pos (positionOf text))) refl refl
   where
@@ -404,97 +399,3 @@ six-exactly text = go (isTimestamp text) (outside (pos 0) lastPosition (pos (pos
 -- a position that is read lies in the range
 pub position-in-range : (text : List ℕ) (position : ℤ) → positionAnswer text ≡ value position → outside (pos 0) lastPosition position ≡ false
 position-in-range text position e = let a = accepts text position e in ap (outside (pos 0) lastPosition) (a .position-is) ∙ a .within
-
--- ---- cues
-
--- positions in the range, the end later than the start
-pub record InOrder (c : Cue) : Type 0 where
-  pub start-in-range : outside (pos 0) lastPosition (c .start) ≡ false
-  pub end-in-range : outside (pos 0) lastPosition (c .end) ≡ false
-  pub start-before-end : ltZ (c .start) (c .end) ≡ true
-
--- the cue of two timestamps has their positions
-record Makes (first second : List ℕ) (c : Cue) : Type 0 where
-  start-read : positionAnswer first ≡ value (c .start)
-  end-read : positionAnswer second ≡ value (c .end)
-  ordered : ltb (positionOf first) (positionOf second) ≡ true
-
-makes : (first second : List ℕ) (c : Cue) → cueOf first second ≡ value c → Makes first second c
-unfolding cueOf
-makes first second c = go (positionAnswer first) (positionAnswer second) (ltb (positionOf first) (positionOf second)) refl refl refl
-  where
-    go : (o p : Outcome ℤ) (t : Bool) → positionAnswer first ≡ o → positionAnswer second ≡ p → ltb (positionOf first) (positionOf second) ≡ t →
-        andThen o (λ start. andThen p (λ end. cond t (value (record { start = start; end = end })) (refused 13))) ≡ value c → Makes first second c
-    go (value start) (value end) true h k l e =
-        let s : _≡_ {A = Cue} (record { start = start; end = end }) c = same-value e in
-        record { start-read = h ∙ ap (λ c. value (c .start)) s; end-read = k ∙ ap (λ c. value (c .end)) s; ordered = l }
-    go (value start) (value end) false h k l e = clash (cc)
-    go (value start) (refused n) t h k l e = clash (cc)
-    go (value start) (refusedAt n place) t h k l e = clash (cc)
-    go (refused n) p t h k l e = clash (cc)
-    go (refusedAt n place) p t h k l e = clash (cc)
-
--- an accepted line is a cue line
-record MadeOf (line : List ℕ) (c : Cue) : Type 0 where
-  first : List ℕ
-  second : List ℕ
-  cue-line-is : CueLine line first second
-  positions-are : Makes first second c
-
-made-of : (line : List ℕ) (c : Cue) → cueAnswer line ≡ value c → MadeOf line c
-unfolding cueAnswer
-made-of line c = go (timing line)
-  where
-    go : (t : Timing line) → timingAnswer t ≡ value c → MadeOf line c
-    go (between first second d) e = record { first = first; second = second; cue-line-is = d; positions-are = makes first second c e }
-    go (of-none never) e = clash (cc)
-
--- the positions of an accepted cue line lie in the range, and the end is later than the start
-pub cue-in-order : (line : List ℕ) (c : Cue) → cueAnswer line ≡ value c → InOrder c
-cue-in-order line c e =
-    let m = made-of line c e in
-    let p = m .positions-are in
-    record {
-      start-in-range = position-in-range (m .first) (c .start) (p .start-read);
-      end-in-range = position-in-range (m .second) (c .end) (p .end-read);
-      start-before-end =
-          ap₂ ltZ (accepts (m .first) (c .start) (p .start-read) .position-is) (accepts (m .second) (c .end) (p .end-read) .position-is) ∙ p .ordered;
-    }
-
--- a position is refused with 13 or 6
-position-refusals : (text : List ℕ) (n : ℕ) → positionAnswer text ≡ refused n → (n ≡ 13) ⊎ (n ≡ 6)
-unfolding positionAnswer
-position-refusals text n = go (isTimestamp text) (outside (pos 0) lastPosition (pos (positionOf text)))
-  where
-    go : (t o : Bool) → cond t (cond o (refused 6) (value (pos (positionOf text)))) (refused 13) ≡ refused n → (n ≡ 13) ⊎ (n ≡ 6)
-    go true true e = inr (cc)
-    go true false e = clash (cc)
-    go false o e = inl (cc)
-
--- reading a cue line refuses with 13 or 6 and nothing else
-pub cue-refusals : (line : List ℕ) (n : ℕ) → cueAnswer line ≡ refused n → (n ≡ 13) ⊎ (n ≡ 6)
-unfolding cueAnswer cueOf
-cue-refusals line n = go (timing line)
-  where
-    of-two : (first second : List ℕ) (o p : Outcome ℤ) (t : Bool) → positionAnswer first ≡ o → positionAnswer second ≡ p →
-        _≡_ {A = Outcome Cue} (andThen o (λ start. andThen p (λ end. cond t (value (record { start = start; end = end })) (refused 13)))) (refused n) →
-        (n ≡ 13) ⊎ (n ≡ 6)
-    of-two first second (value start) (value end) true h k e = clash (cc)
-    of-two first second (value start) (value end) false h k e = inl (cc)
-    of-two first second (value start) (refused m) t h k e = let z : m ≡ n = cc in position-refusals second n (k ∙ ap refused z)
-    of-two first second (value start) (refusedAt m place) t h k e = clash (cc)
-    of-two first second (refused m) p t h k e = let z : m ≡ n = cc in position-refusals first n (h ∙ ap refused z)
-    of-two first second (refusedAt m place) p t h k e = clash (cc)
-
-    go : (t : Timing line) → timingAnswer t ≡ refused n → (n ≡ 13) ⊎ (n ≡ 6)
-    go (between first second d) e = of-two first second (positionAnswer first) (positionAnswer second) (ltb (positionOf first) (positionOf second)) refl refl e
-    go (of-none never) e = inl (cc)
-
--- an accepted line is a cue line of two timestamps, and the cue is their positions
-pub cue-accepted :
-    (line : List ℕ) (c : Cue) → cueAnswer line ≡ value c →
-    (first : List ℕ) × ((second : List ℕ) × (CueLine line first second × ((positionAnswer first ≡ value (c .start)) × (positionAnswer second ≡ value (c .end)))))
-cue-accepted line c e =
-    let m = made-of line c e in
-    let p = m .positions-are in
-    (m .first, (m .second, (m .cue-line-is, (p .start-read, p .end-read))))

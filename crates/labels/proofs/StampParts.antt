@@ -1,27 +1,25 @@
 -- A timestamp by its last twelve bytes and the digits in front of them, and by nine bytes alone.
-use Prim.Native.Nat.{ℕ, zero, suc, _+_, _-_, _*_, _%_, _≤_, _<_, _^_}
-use mathlib.Core.Path.{_≡_, refl, sym, ap, ap₂, _∙_, subst}
-use mathlib.Core.Bool.{Bool, true, false, cond, _&&_, _||_, and-assoc, and-comm}
+use Prim.Native.Nat.{ℕ, suc, _+_, _-_, _*_, _≤_, _<_}
+use mathlib.Core.Path.{_≡_, refl, sym, ap, ap₂, _∙_}
+use mathlib.Core.Bool.{Bool, true, false, _&&_, _||_}
 use mathlib.Core.List.{List, [], _∷_, _++_, append-assoc}
 use native.Mathlib.Omega.{arith}
-use borrow.Author.Tests.{ltb-true, ltb-false, lt-ltb, le-ltb, lt-leb, le-leb, eq-eqb, ne-eqb}
-use lib.Dec.{eqb, leb, ltb}
-use lib.IntN.{pos}
-use lib.ListN.{length, getD, take, drop, replicate, length-append, length-drop, length-replicate, replicate-append-replicate}
+use borrow.Author.Tests.{le-leb, ne-eqb}
+use lib.Dec.{eqb, leb}
+use lib.ListN.{length, getD, take, drop, replicate, length-append, length-replicate, replicate-append-replicate}
 use lib.Seq.{take-at, drop-at, take-append-add}
 use mir.Syntax.{w8}
 use mir.Val.{Fits}
-use Rattle.numbers.specs.Range.{outside}
-use Rattle.numbers.proofs.Bools.{no-both, and-left, and-right}
-use Rattle.labels.specs.Clock.{colon, clockText}
-use Rattle.labels.specs.Digits.{digits, number, numberAt, numberFrom, isDigit, fits}
+use Rattle.numbers.proofs.Bools.{and-left, and-right}
+use Rattle.labels.specs.Clock.{colon}
+use Rattle.labels.specs.Digits.{digits, number, isDigit, fits}
 use Rattle.labels.specs.Words.{word, bytesOf, partOf}
-use Rattle.labels.specs.Webvtt.{lastPosition, perHour}
-use Rattle.labels.specs.Timestamps.{lastNine, inFront, isClock, areHours, isTimestamp, clockValue, hoursText, hoursValue, positionOf}
-use Rattle.labels.specs.Stamps.{wrong, beyond, stampOf, allDigits, oneMore, limitedFrom, leading}
+use Rattle.labels.specs.Webvtt.{perHour}
+use Rattle.labels.specs.Timestamps.{isClock, areHours, isTimestamp, hoursValue, positionOf}
+use Rattle.labels.specs.Stamps.{stampOf, allDigits}
 use Rattle.labels.proofs.Words.{bytes, all-bytes, part-length, part-le, part-two, part-four, part-five}
-use Rattle.labels.proofs.Decimal.{from-append, digit-range}
-use Rattle.labels.proofs.Shapes.{uneven, fits-append, zeros, zeros-fit, fits-both, digits-fit}
+use Rattle.labels.proofs.Decimal.{from-append}
+use Rattle.labels.proofs.Shapes.{fits-append, zeros}
 use Rattle.labels.proofs.TimestampParts.{timestamp-cut, position-cut, clock-parts, hours-below}
 use Rattle.labels.proofs.StampNumbers.{stamp-same}
 

@@ -1,13 +1,16 @@
 -- What a cue timing line answers: document 02, request One, "13 for a wrong shape, 6 for a position above the limit, and on a cue line 13
 -- again for an end not later than its start".
-use Prim.Native.Nat.{ℕ}
+use Prim.Native.Nat.{ℕ, _≤_, _<_}
+use mathlib.Core.Path.{_≡_}
+use mathlib.Core.Logic.{_⊎_}
 use mathlib.Core.Bool.{cond}
 use mathlib.Core.List.{List}
 use lib.Dec.{ltb}
+use lib.IntN.{ℤ}
 use Rattle.refusal.specs.Numbers.{refusalNumber}
 use Rattle.refusal.specs.Outcome.{Outcome, value, refused, andThen}
 use Rattle.labels.specs.Timestamps.{positionOf, positionAnswer}
-use Rattle.labels.specs.CueLines.{Timing, between, of-none}
+use Rattle.labels.specs.CueLines.{CueLine, Timing, between, of-none}
 use Rattle.labels.specs.Timings.{timing}
 use Rattle.labels.specs.declared.webvtt.Cue.{Cue}
 use Rattle.labels.specs.declared.webvtt.CueAnswer.{CueAnswer}
@@ -32,3 +35,32 @@ timingAnswer (of-none never) = refused 13
 -- 13 for a line that is no cue line, then what its two timestamps make; what `timing` decides stands in its type (specs/CueLines.antt)
 unfoldable pub cueAnswer : (line : List ℕ) → Outcome Cue
 cueAnswer line = timingAnswer (timing line)
+
+-- ---- the three answers, of which it is shown that each is given exactly then (labels/proofs/CueLaws.antt)
+
+-- a cue line with both positions in the range, and the end later than the start
+pub record Accepted (line : List ℕ) (cue : Cue) : Type 0 where
+  pub first : List ℕ
+  pub second : List ℕ
+  pub parts : CueLine line first second
+  pub start-read : positionAnswer first ≡ value (cue .start)
+  pub end-read : positionAnswer second ≡ value (cue .end)
+  pub later : positionOf first < positionOf second
+
+-- a cue line one of whose positions is above the limit
+pub record AboveLimit (line : List ℕ) : Type 0 where
+  pub first : List ℕ
+  pub second : List ℕ
+  pub parts : CueLine line first second
+  pub above : (positionAnswer first ≡ refused 6) ⊎ (positionAnswer second ≡ refused 6)
+
+-- a cue line with both positions in the range, and an end not later than the start
+pub record NotLater (line : List ℕ) : Type 0 where
+  pub first : List ℕ
+  pub second : List ℕ
+  pub parts : CueLine line first second
+  pub start : ℤ
+  pub end : ℤ
+  pub start-read : positionAnswer first ≡ value start
+  pub end-read : positionAnswer second ≡ value end
+  pub not-later : positionOf second ≤ positionOf first
