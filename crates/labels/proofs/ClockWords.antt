@@ -99,8 +99,8 @@ module _ (clock fraction : ℕ) (hc : clock < 2 ^ 64) (hf : fraction < 2 ^ 32) w
     minute : numberAt 0 2 (drop 3 whole) < 60
     second : numberAt 3 2 (drop 3 whole) < 60
 
-  right : isTimestamp whole ≡ true → Right
-  right t =
+  right-if : isTimestamp whole ≡ true → Right
+  right-if t =
       let c = and-left (isClock (drop 3 whole)) _ t in
       let h = and-right (isClock (drop 3 whole)) _ t in
       let f = shapes ∙ ap₂ _&&_ h (and-left (fits (clockText 3 0 0 0) (drop 3 whole)) _ c) in
@@ -123,7 +123,7 @@ module _ (clock fraction : ℕ) (hc : clock < 2 ^ 64) (hf : fraction < 2 ^ 32) w
   pub high-byte : (bitOr (bitAnd clock highest) (bitAnd fraction highest) ≡ 0 → ⊥) → wrong ≡ stampOf whole
   high-byte never =
       no-stamp whole (λ t.
-      let r = right t in
+      let r = right-if t in
       never (ap₂ bitOr (text-clear held-first (fits-low toSecondShape first (omega arith) (r .fits-first)))
       (text-clear held-rest (fits-low fractionShape rest (omega arith) (r .fits-rest)))))
 
@@ -136,7 +136,7 @@ module _ (clock fraction : ℕ) (hc : clock < 2 ^ 64) (hf : fraction < 2 ^ 32) w
   pub no-room : (bitOr first-bits rest-bits ≡ 0 → ⊥) → wrong ≡ stampOf whole
   no-room never =
       no-stamp whole (λ t.
-      let r = right t in
+      let r = right-if t in
       let n = all-near toSecondShape first (r .fits-first) in
       let m = all-near fractionShape rest (r .fits-rest) in
       let a = all-fit toSecondShape first (held-first .both) (r .fits-first) .gaps-are in

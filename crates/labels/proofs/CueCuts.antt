@@ -14,8 +14,8 @@ use Rattle.labels.specs.Digits.{fits}
 use Rattle.labels.specs.Words.{partOf}
 use Rattle.labels.specs.Timestamps.{isTimestamp}
 use Rattle.labels.specs.CueLines.{arrow}
-use Rattle.labels.specs.Timings.{run, firstEnd, arrowAt, secondAt, hasArrow, firstOf, secondOf, FirstEnd, some-blanks, is-cue}
-use Rattle.labels.specs.Cues.{cueAnswer}
+use Rattle.labels.specs.Timings.{run, firstEnd, arrowAt, secondAt, hasArrow, firstOf, secondOf, EndsFirst, some-blanks, is-cue}
+use Rattle.labels.specs.Cues.{cueLineAnswer}
 use Rattle.labels.specs.Stamps.{stampOf, cueOfStamps}
 use Rattle.labels.specs.declared.webvtt.Cue.{Cue}
 use Rattle.labels.proofs.Shapes.{uneven}
@@ -25,7 +25,7 @@ use Rattle.labels.proofs.CueParts.{no-cue-line}
 use Rattle.labels.proofs.CueStamps.{by-cuts}
 
 -- a cue line has 23 bytes or more
-pub few-bytes-line : (line : List ℕ) → length line < 23 → refused 13 ≡ cueAnswer line
+pub few-bytes-line : (line : List ℕ) → length line < 23 → refused 13 ≡ cueLineAnswer line
 few-bytes-line line few =
     sym (no-cue-line line (λ first second c.
     let a = least first (c .first-is) in
@@ -50,21 +50,21 @@ module _ (line : List ℕ) where
   abbrev read-both : Outcome Cue
   read-both = cueOfStamps (stampOf (firstOf line)) (stampOf (secondOf line))
 
-  no-arrow : hasArrow line ≡ false → refused 13 ≡ cueAnswer line
+  no-arrow : hasArrow line ≡ false → refused 13 ≡ cueLineAnswer line
   no-arrow e = sym (by-cuts line ∙ ap (λ t. cond t read-both (refused 13)) e)
 
   -- the first bytes are no timestamp
-  no-first : isTimestamp (firstOf line) ≡ false → refused 13 ≡ cueAnswer line
+  no-first : isTimestamp (firstOf line) ≡ false → refused 13 ≡ cueLineAnswer line
   no-first e =
       sym (no-cue-line line (λ first second c.
       no-both (isTimestamp (firstOf line)) (and-left (isTimestamp (firstOf line)) _ (and-right (hasArrow line) _ (is-cue line first second c))) e))
 
-  module _ {a p : ℕ} (first : FirstEnd line a) (ep : p ≡ a + run true (drop a line)) where
+  module _ {a p : ℕ} (first : EndsFirst line a) (ep : p ≡ a + run true (drop a line)) where
     -- what is 13 where a timestamp ends there is 13 where there is none
-    if-first : (a ≡ firstEnd line → refused 13 ≡ cueAnswer line) → refused 13 ≡ cueAnswer line
+    if-first : (a ≡ firstEnd line → refused 13 ≡ cueLineAnswer line) → refused 13 ≡ cueLineAnswer line
     if-first f = go (isTimestamp (firstOf line)) refl
       where
-        go : (t : Bool) → isTimestamp (firstOf line) ≡ t → refused 13 ≡ cueAnswer line
+        go : (t : Bool) → isTimestamp (firstOf line) ≡ t → refused 13 ≡ cueLineAnswer line
         go true e = f (first .if-there e)
         go false e = no-first e
 
@@ -72,7 +72,7 @@ module _ (line : List ℕ) where
     at-arrow e = ep ∙ ap (λ a. a + run true (drop a line)) e
 
     -- no blank in front of the arrow
-    pub glued-front : p ≡ a → refused 13 ≡ cueAnswer line
+    pub glued-front : p ≡ a → refused 13 ≡ cueLineAnswer line
     glued-front g =
         if-first (λ e. no-arrow (ap (λ t. t && (fits arrow (take 3 (drop (arrowAt line) line)) && ltb (arrowAt line + 3) (secondAt line)))
         (le-ltb (firstEnd line) (arrowAt line) (omega (arith, e, at-arrow e, g)))))
@@ -81,12 +81,12 @@ module _ (line : List ℕ) where
       before : a ≡ firstEnd line → ltb (firstEnd line) (arrowAt line) ≡ true
       before e = lt-ltb (firstEnd line) (arrowAt line) (omega (arith, apart, ep, e, at-arrow e))
 
-      pub no-mark : {t : Bool} → t ≡ fits arrow (partOf p 3 line) → t ≡ false → refused 13 ≡ cueAnswer line
+      pub no-mark : {t : Bool} → t ≡ fits arrow (partOf p 3 line) → t ≡ false → refused 13 ≡ cueLineAnswer line
       no-mark m n =
           if-first (λ e. no-arrow (ap₂ _&&_ (before e)
           (ap (λ t. t && ltb (arrowAt line + 3) (secondAt line)) (sym (ap (λ p. fits arrow (partOf p 3 line)) (at-arrow e)) ∙ sym m ∙ n))))
 
-      pub cut-short : length line - p < 3 → refused 13 ≡ cueAnswer line
+      pub cut-short : length line - p < 3 → refused 13 ≡ cueLineAnswer line
       cut-short l = no-mark refl (uneven arrow (partOf p 3 line) (λ e. omega (arith, l, e, length-take 3 (drop p line), length-drop p line)))
 
       module _ {t : Bool} (m : t ≡ fits arrow (partOf p 3 line)) (y : t ≡ true) {q : ℕ} (eq : q ≡ p + 3 + run true (drop (p + 3) line)) where
@@ -97,17 +97,17 @@ module _ (line : List ℕ) where
         at-second e = eq ∙ ap (λ p. p + 3 + run true (drop (p + 3) line)) (at-arrow e)
 
         -- no blank behind the arrow
-        pub glued-back : q ≡ p + 3 → refused 13 ≡ cueAnswer line
+        pub glued-back : q ≡ p + 3 → refused 13 ≡ cueLineAnswer line
         glued-back g =
             if-first (λ e. no-arrow (ap₂ _&&_ (before e)
             (ap₂ _&&_ (there e) (le-ltb (arrowAt line + 3) (secondAt line) (omega (arith, at-arrow e, at-second e, g))))))
 
         pub both-read :
             (q ≡ p + 3 → ⊥) → {m n : ℕ} → m ≡ stampOf (take a line) → n ≡ stampOf (take (length line - q) (drop q line)) →
-            cueOfStamps m n ≡ cueAnswer line
+            cueOfStamps m n ≡ cueLineAnswer line
         both-read h {m} {n} f g = go (isTimestamp (take a line)) refl
           where
-            read : a ≡ firstEnd line → cueOfStamps m n ≡ cueAnswer line
+            read : a ≡ firstEnd line → cueOfStamps m n ≡ cueLineAnswer line
             read e =
                 ap₂ cueOfStamps (f ∙ ap (λ a. stampOf (take a line)) e)
                 (g ∙ ap stampOf (take-all (length line - q) (drop q line) (omega (arith, length-drop q line))) ∙ ap (λ q. stampOf (drop q line)) (at-second e))
@@ -116,12 +116,12 @@ module _ (line : List ℕ) where
                 (ap₂ _&&_ (before e) (ap₂ _&&_ (there e) (lt-ltb (arrowAt line + 3) (secondAt line) (omega (arith, h, eq, at-arrow e, at-second e))))))
 
             -- where no timestamp is read there is none
-            go : (t : Bool) → isTimestamp (take a line) ≡ t → cueOfStamps m n ≡ cueAnswer line
+            go : (t : Bool) → isTimestamp (take a line) ≡ t → cueOfStamps m n ≡ cueLineAnswer line
             go true e = read (first .if-taken e)
             go false e =
                 ap (λ m. cueOfStamps m n) (f ∙ sym (no-stamp (take a line) (λ t. no-both (isTimestamp (take a line)) t e)))
                 ∙ none-there (isTimestamp (firstOf line)) refl
               where
-                none-there : (t : Bool) → isTimestamp (firstOf line) ≡ t → refused 13 ≡ cueAnswer line
+                none-there : (t : Bool) → isTimestamp (firstOf line) ≡ t → refused 13 ≡ cueLineAnswer line
                 none-there true t = no-both (isTimestamp (take a line)) (ap (λ a. isTimestamp (take a line)) (first .if-there t) ∙ t) e
                 none-there false t = no-first t

@@ -15,11 +15,11 @@ use Rattle.numbers.specs.Range.{outside}
 use Rattle.labels.specs.Webvtt.{lastPosition}
 use Rattle.labels.specs.Timestamps.{isTimestamp, positionOf, positionAnswer}
 use Rattle.labels.specs.CueLines.{CueLine, Timing, between, of-none}
-use Rattle.labels.specs.Timings.{timing}
-use Rattle.labels.specs.Cues.{cueOf, cueAnswer, Accepted, AboveLimit, NotLater}
+use Rattle.labels.specs.Timings.{timingOf}
+use Rattle.labels.specs.Cues.{cueOf, cueLineAnswer, InOrder, AboveLimit, NotLater}
 use Rattle.labels.specs.declared.webvtt.Cue.{Cue}
 use Rattle.labels.proofs.CueParts.{cue-line, no-cue-line}
-use Rattle.labels.proofs.ReadBack.{accepts, position-in-range}
+use Rattle.labels.proofs.ReadBack.{accepted-parts, position-in-range}
 
 -- ---- two timestamps
 
@@ -51,10 +51,10 @@ six-or-read {G} text t high given = go (outside (pos 0) lastPosition (pos (posit
 
 -- no cue line, or one of three
 by-cue :
-    {G : Type 0} (line : List ℕ) → (((first second : List ℕ) → CueLine line first second → ⊥) → cueAnswer line ≡ refused 13 → G) →
-    (AboveLimit line → cueAnswer line ≡ refused 6 → G) → (NotLater line → cueAnswer line ≡ refused 13 → G) →
-    ((c : Cue) → Accepted line c → cueAnswer line ≡ value c → G) → G
-by-cue {G} line missing high late given = go (timing line)
+    {G : Type 0} (line : List ℕ) → (((first second : List ℕ) → CueLine line first second → ⊥) → cueLineAnswer line ≡ refused 13 → G) →
+    (AboveLimit line → cueLineAnswer line ≡ refused 6 → G) → (NotLater line → cueLineAnswer line ≡ refused 13 → G) →
+    ((c : Cue) → InOrder line c → cueLineAnswer line ≡ value c → G) → G
+by-cue {G} line missing high late given = go (timingOf line)
   where
     ordered : (first second : List ℕ) → CueLine line first second → (start end : ℤ) → positionAnswer first ≡ value start → positionAnswer second ≡ value end →
         (t : Bool) → ltb (positionOf first) (positionOf second) ≡ t → G
@@ -87,18 +87,18 @@ by-cue {G} line missing high late given = go (timing line)
         (λ end q. ordered first second d start end p q (ltb (positionOf first) (positionOf second)) refl))
 
 -- a line is accepted exactly if it is a cue line with both positions in the range, and the end later than the start
-pub cue-exactly : (line : List ℕ) (c : Cue) → (cueAnswer line ≡ value c) ↔ Accepted line c
+pub cue-exactly : (line : List ℕ) (c : Cue) → (cueLineAnswer line ≡ value c) ↔ InOrder line c
 cue-exactly line c = (
   λ e.
       by-cue line (λ n a. let z = sym a ∙ e in clash (cc)) (λ h a. let z = sym a ∙ e in clash (cc)) (λ l a. let z = sym a ∙ e in clash (cc))
-      (λ d r a. subst (Accepted line) (same-value (sym a ∙ e)) r),
+      (λ d r a. subst (InOrder line) (same-value (sym a ∙ e)) r),
   λ r.
       cue-line line (r .first) (r .second) (r .parts)
       ∙ pair (r .first) (r .second) (r .start-read) (r .end-read) (lt-ltb (positionOf (r .first)) (positionOf (r .second)) (r .later)),
 )
 
 -- it is refused with 6 exactly if it is a cue line one of whose positions is above the limit
-pub cue-six-exactly : (line : List ℕ) → (cueAnswer line ≡ refused 6) ↔ AboveLimit line
+pub cue-six-exactly : (line : List ℕ) → (cueLineAnswer line ≡ refused 6) ↔ AboveLimit line
 cue-six-exactly line = (
   λ e.
       by-cue line (λ n a. thirteen (sym a ∙ e)) (λ h a. h) (λ l a. thirteen (sym a ∙ e)) (λ d r a. let z = sym a ∙ e in clash (cc)),
@@ -114,7 +114,7 @@ cue-six-exactly line = (
 
 -- it is refused with 13 exactly if it is no cue line, or one with both positions in the range and an end not later than the start
 pub cue-thirteen-exactly :
-    (line : List ℕ) → (cueAnswer line ≡ refused 13) ↔ (((first second : List ℕ) → CueLine line first second → ⊥) ⊎ NotLater line)
+    (line : List ℕ) → (cueLineAnswer line ≡ refused 13) ↔ (((first second : List ℕ) → CueLine line first second → ⊥) ⊎ NotLater line)
 cue-thirteen-exactly line = (
   λ e. by-cue line (λ n a. inl n) (λ h a. six (sym a ∙ e)) (λ l a. inr l) (λ d r a. let z = sym a ∙ e in clash (cc)),
   either,
@@ -123,7 +123,7 @@ cue-thirteen-exactly line = (
     six : {G : Type 0} → _≡_ {A = Outcome Cue} (refused 6) (refused 13) → G
     six e = let z : _≡_ {A = ℕ} 6 13 = cc in absurd (omega arith)
 
-    either : ((first second : List ℕ) → CueLine line first second → ⊥) ⊎ NotLater line → cueAnswer line ≡ refused 13
+    either : ((first second : List ℕ) → CueLine line first second → ⊥) ⊎ NotLater line → cueLineAnswer line ≡ refused 13
     either (inl n) = no-cue-line line n
     either (inr l) =
         cue-line line (l .first) (l .second) (l .parts)
@@ -131,12 +131,12 @@ cue-thirteen-exactly line = (
 
 -- an accepted cue has both positions in the range, and the start before the end
 pub cue-in-order :
-    (line : List ℕ) (c : Cue) → cueAnswer line ≡ value c →
+    (line : List ℕ) (c : Cue) → cueLineAnswer line ≡ value c →
     ((outside (pos 0) lastPosition (c .start) ≡ false) × (outside (pos 0) lastPosition (c .end) ≡ false)) × (ltZ (c .start) (c .end) ≡ true)
 cue-in-order line c e =
     let r = cue-exactly line c .0 e in
-    let s = accepts (r .first) (c .start) (r .start-read) in
-    let t = accepts (r .second) (c .end) (r .end-read) in (
+    let s = accepted-parts (r .first) (c .start) (r .start-read) in
+    let t = accepted-parts (r .second) (c .end) (r .end-read) in (
       (position-in-range (r .first) (c .start) (r .start-read), position-in-range (r .second) (c .end) (r .end-read)),
       ap₂ ltZ (s .position-is) (t .position-is) ∙ lt-ltb (positionOf (r .first)) (positionOf (r .second)) (r .later),
     )

@@ -10,7 +10,7 @@ use lib.ListN.{length, getD, take, drop, drop-of-length-le}
 use lib.Seq.{drop-cons, length-take-le}
 use Rattle.labels.specs.CueLines.{isBlank}
 use Rattle.labels.specs.Timestamps.{isTimestamp}
-use Rattle.labels.specs.Timings.{same, run, run-le, AllAre, stamp-solid, FirstEnd}
+use Rattle.labels.specs.Timings.{same, run, run-le, AllAre, stamp-solid, EndsFirst}
 use Rattle.labels.proofs.StampRead.{stamp-length}
 
 same-beq : (a b : Bool) → same b a ≡ Bool·beq a b
@@ -91,7 +91,7 @@ module _ (line : List ℕ) where
   taken k h t = solid-run line k h (stamp-solid (take k line) t)
 
   module _ (long : 13 ≤ length line) {u : Bool} (e : u ≡ isBlank (getD line 9 0)) where
-    pub ends-at-nine : u ≡ true → FirstEnd line 9
+    pub ends-at-nine : u ≡ true → EndsFirst line 9
     ends-at-nine b =
         let s = blank-stops line 9 (omega arith) (sym e ∙ b) in
         record {
@@ -103,7 +103,7 @@ module _ (line : List ℕ) where
       past-nine : end ≡ 9 → ⊥
       past-nine = solid-goes-on line 9 (omega arith) (sym e ∙ b)
 
-      pub ends-at-twelve : v ≡ true → FirstEnd line 12
+      pub ends-at-twelve : v ≡ true → EndsFirst line 12
       ends-at-twelve c =
           let s = blank-stops line 12 (omega arith) (sym f ∙ c) in
           record {
@@ -111,7 +111,7 @@ module _ (line : List ℕ) where
             if-taken = λ t. omega (arith, s, taken 12 (omega arith) t);
           }
 
-      pub ends-later : v ≡ false → {r : ℕ} → r ≡ 13 + run false (drop 13 line) → r ≤ length line → FirstEnd line r
+      pub ends-later : v ≡ false → {r : ℕ} → r ≡ 13 + run false (drop 13 line) → r ≤ length line → EndsFirst line r
       ends-later c {r} g h =
           let past-twelve = solid-goes-on line 12 (omega arith) (sym f ∙ c) in
           record {

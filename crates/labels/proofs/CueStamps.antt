@@ -12,7 +12,7 @@ use Rattle.refusal.specs.Outcome.{Outcome, value, refused, andThen}
 use Rattle.numbers.proofs.Bools.{no-both}
 use Rattle.labels.specs.Timestamps.{isTimestamp, positionOf, positionAnswer}
 use Rattle.labels.specs.Timings.{hasArrow, firstOf, secondOf, isCueLine, is-cue, parts}
-use Rattle.labels.specs.Cues.{cueOf, cueAnswer}
+use Rattle.labels.specs.Cues.{cueOf, cueLineAnswer}
 use Rattle.labels.specs.Stamps.{wrong, beyond, stampOf, Stamp, no-timestamp, above-limit, in-range, cueOfStamps}
 use Rattle.labels.specs.declared.webvtt.Cue.{Cue}
 use Rattle.labels.proofs.CueParts.{cue-line, no-cue-line}
@@ -118,14 +118,14 @@ cue-of-texts first second f s =
 
 -- ---- a line
 
-pub by-cuts : (line : List ℕ) → cueAnswer line ≡ cond (hasArrow line) (cueOfStamps (stampOf (firstOf line)) (stampOf (secondOf line))) (refused 13)
+pub by-cuts : (line : List ℕ) → cueLineAnswer line ≡ cond (hasArrow line) (cueOfStamps (stampOf (firstOf line)) (stampOf (secondOf line))) (refused 13)
 by-cuts line = go (hasArrow line) refl
   where
-    no-line : isCueLine line ≡ false → cueAnswer line ≡ refused 13
+    no-line : isCueLine line ≡ false → cueLineAnswer line ≡ refused 13
     no-line e = no-cue-line line (λ first second c. no-both (isCueLine line) (is-cue line first second c) e)
 
     stamps : (t u : Bool) → isTimestamp (firstOf line) ≡ t → isTimestamp (secondOf line) ≡ u → hasArrow line ≡ true →
-        cueAnswer line ≡ cueOfStamps (stampOf (firstOf line)) (stampOf (secondOf line))
+        cueLineAnswer line ≡ cueOfStamps (stampOf (firstOf line)) (stampOf (secondOf line))
     stamps true true e f a =
         cue-line line (firstOf line) (secondOf line) (parts line (ap₂ _&&_ a (ap₂ _&&_ e f))) ∙ cue-of-texts (firstOf line) (secondOf line) e f
     stamps false u e f a =
@@ -136,6 +136,6 @@ by-cuts line = go (hasArrow line) refl
         ∙ sym (ap (λ t. cond t (refused 13) (then-limit (stampOf (firstOf line)) wrong)) (or-true (eqb (stampOf (firstOf line)) wrong)))
         ∙ ap (cueOfStamps (stampOf (firstOf line))) (no-stamp (secondOf line) (λ t. no-both (isTimestamp (secondOf line)) t f))
 
-    go : (a : Bool) → hasArrow line ≡ a → cueAnswer line ≡ cond a (cueOfStamps (stampOf (firstOf line)) (stampOf (secondOf line))) (refused 13)
+    go : (a : Bool) → hasArrow line ≡ a → cueLineAnswer line ≡ cond a (cueOfStamps (stampOf (firstOf line)) (stampOf (secondOf line))) (refused 13)
     go true a = stamps (isTimestamp (firstOf line)) (isTimestamp (secondOf line)) refl refl a
     go false a = no-line (ap (λ a. a && (isTimestamp (firstOf line) && isTimestamp (secondOf line))) a)

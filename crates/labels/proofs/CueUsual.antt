@@ -12,14 +12,14 @@ use Rattle.labels.specs.Words.{partOf}
 use Rattle.labels.specs.Timestamps.{isTimestamp}
 use Rattle.labels.specs.CueLines.{CueLine}
 use Rattle.labels.specs.Timings.{usualGap, marks-fit}
-use Rattle.labels.specs.Cues.{cueAnswer}
+use Rattle.labels.specs.Cues.{cueLineAnswer}
 use Rattle.labels.specs.Stamps.{wrong, stampOf, cueOfStamps}
 use Rattle.labels.proofs.StampNumbers.{by-stamp}
 use Rattle.labels.proofs.CueParts.{cue-line}
 use Rattle.labels.proofs.CueStamps.{not-wrong, cue-of-texts}
 
-right : (text : List ℕ) {n : ℕ} → n ≡ stampOf text → n < wrong → isTimestamp text ≡ true
-right text e h = by-stamp text (λ t s. absurd (omega (arith, e, s, h))) (λ t o s. t) (λ t o s l. t)
+timestamp-if : (text : List ℕ) {n : ℕ} → n ≡ stampOf text → n < wrong → isTimestamp text ≡ true
+timestamp-if text e h = by-stamp text (λ t s. absurd (omega (arith, e, s, h))) (λ t o s. t) (λ t o s l. t)
 
 module _ (line : List ℕ) (n : ℕ) (l : length line ≡ n + 5 + n) (gap : fits usualGap (partOf n 5 line) ≡ true) where
   abbrev first : List ℕ
@@ -36,11 +36,11 @@ module _ (line : List ℕ) (n : ℕ) (l : length line ≡ n + 5 + n) (gap : fits
       ∙ ap₂ _++_ (marks-fit usualGap (partOf n 5 line) (refl, (refl, (refl, (refl, (refl, tt))))) gap)
       (drop-drop 5 n line ∙ sym (take-all n (drop (n + 5) line) (omega (arith, l, length-drop (n + 5) line)))))
 
-  pub usual-line : {a b : ℕ} → a ≡ stampOf first → b ≡ stampOf second → bitOr a b < wrong → cueOfStamps a b ≡ cueAnswer line
+  pub usual-line : {a b : ℕ} → a ≡ stampOf first → b ≡ stampOf second → bitOr a b < wrong → cueOfStamps a b ≡ cueLineAnswer line
   usual-line {a} {b} e f h =
       let r = not-wrong a b h in
-      let t = right first e (r .0) in
-      let u = right second f (r .1) in
+      let t = timestamp-if first e (r .0) in
+      let u = timestamp-if second f (r .1) in
       let c : CueLine line first second =
       record { before = 32 ∷ []; behind = 32 ∷ []; line-is = line-is; first-is = t; blanks-before = refl; blanks-behind = refl; second-is = u } in
       ap₂ cueOfStamps e f ∙ sym (cue-line line first second c ∙ cue-of-texts first second t u)

@@ -54,8 +54,8 @@ record Splits (n h m s k : ℕ) : Type 0 where
   seconds-back : n % perMinute / perSecond ≡ s
   fraction-back : n % perSecond ≡ k
 
-splits : (h m s k : ℕ) → m < 60 → s < 60 → k < 1000 → Splits (h * perHour + (m * perMinute + s * perSecond + k)) h m s k
-splits h m s k a b c = record { hours-back = omega arith; minutes-back = omega arith; seconds-back = omega arith; fraction-back = omega arith }
+splits-of : (h m s k : ℕ) → m < 60 → s < 60 → k < 1000 → Splits (h * perHour + (m * perMinute + s * perSecond + k)) h m s k
+splits-of h m s k a b c = record { hours-back = omega arith; minutes-back = omega arith; seconds-back = omega arith; fraction-back = omega arith }
 
 -- a timestamp's position has the numbers that the timestamp has
 module _ (text : List ℕ) (h : isTimestamp text ≡ true) where
@@ -69,7 +69,7 @@ module _ (text : List ℕ) (h : isTimestamp text ≡ true) where
       Splits (positionOf text) (hoursValue (inFront text)) (numberAt 0 2 (lastNine text)) (numberAt 3 2 (lastNine text)) (numberAt 6 3 (lastNine text))
   parts-back =
       let c = clock-parts (lastNine text) is-clock in
-      splits (hoursValue (inFront text)) (numberAt 0 2 (lastNine text)) (numberAt 3 2 (lastNine text)) (numberAt 6 3 (lastNine text))
+      splits-of (hoursValue (inFront text)) (numberAt 0 2 (lastNine text)) (numberAt 3 2 (lastNine text)) (numberAt 6 3 (lastNine text))
       (c .minute-small) (c .second-small) (c .fraction-small)
 
   clock-back : clockOf (positionOf text) ≡ lastNine text
@@ -166,9 +166,9 @@ pub record Accepts (text : List ℕ) (position : ℤ) : Type 0 where
   pub within : outside (pos 0) lastPosition (pos (positionOf text)) ≡ false
   pub position-is : position ≡ pos (positionOf text)
 
-pub accepts : (text : List ℕ) (position : ℤ) → positionAnswer text ≡ value position → Accepts text position
+pub accepted-parts : (text : List ℕ) (position : ℤ) → positionAnswer text ≡ value position → Accepts text position
 unfolding positionAnswer
-accepts text position = go (isTimestamp text) (outside (pos 0) lastPosition (pos (positionOf text))) refl refl
+accepted-parts text position = go (isTimestamp text) (outside (pos 0) lastPosition (pos (positionOf text))) refl refl
   where
     go : (t o : Bool) → isTimestamp text ≡ t → outside (pos 0) lastPosition (pos (positionOf text)) ≡ o →
         cond t (cond o (refused 6) (value (pos (positionOf text)))) (refused 13) ≡ value position → Accepts text position
@@ -193,7 +193,7 @@ pub position-read-write :
     (label : List ℕ) (position : ℤ) → positionAnswer label ≡ value position → positionLabel position ≡ value (positionText (positionOf label))
 unfolding positionLabel
 position-read-write label position e =
-    let a = accepts label position e in
+    let a = accepted-parts label position e in
     ap positionLabel (a .position-is) ∙ ap (λ o. cond o (refused 6) (value (positionText (positionOf label)))) (a .within)
 
 -- ---- full hours
@@ -315,7 +315,7 @@ same-bytes-exactly label position e = (there, back)
 
     back : hasFullHours label ≡ true → positionLabel position ≡ value label
     back f =
-        let a = accepts label position e in
+        let a = accepted-parts label position e in
         position-read-write label position e ∙ ap value (full-back label (a .a-timestamp) (hours-small label (a .a-timestamp) (a .within)) f)
 
 -- ---- the same position
@@ -353,8 +353,8 @@ same-position-exactly a b p q d e = (there, back)
   where
     there : p ≡ q → (lastNine a ≡ lastNine b) × (withoutZeros (hoursText (inFront a)) ≡ withoutZeros (hoursText (inFront b)))
     there s =
-        let f = accepts a p d in
-        let g = accepts b q e in
+        let f = accepted-parts a p d in
+        let g = accepted-parts b q e in
         let n : positionOf a ≡ positionOf b = ap natAbs (sym (f .position-is) ∙ s ∙ g .position-is) in (
           sym (clock-back a (f .a-timestamp)) ∙ ap clockOf n ∙ clock-back b (g .a-timestamp),
           same-hours a b (f .a-timestamp) (g .a-timestamp)
@@ -363,10 +363,10 @@ same-position-exactly a b p q d e = (there, back)
 
     back : (lastNine a ≡ lastNine b) × (withoutZeros (hoursText (inFront a)) ≡ withoutZeros (hoursText (inFront b))) → p ≡ q
     back s =
-        accepts a p d .position-is
+        accepted-parts a p d .position-is
         ∙ ap pos (ap₂ (λ h c. h * perHour + clockValue c)
         (sym (number-without (hoursText (inFront a))) ∙ ap number (s .1) ∙ number-without (hoursText (inFront b))) (s .0))
-        ∙ sym (accepts b q e .position-is)
+        ∙ sym (accepted-parts b q e .position-is)
 
 -- ---- the reader's refusals
 
@@ -398,4 +398,4 @@ six-exactly text = go (isTimestamp text) (outside (pos 0) lastPosition (pos (pos
 
 -- a position that is read lies in the range
 pub position-in-range : (text : List ℕ) (position : ℤ) → positionAnswer text ≡ value position → outside (pos 0) lastPosition position ≡ false
-position-in-range text position e = let a = accepts text position e in ap (outside (pos 0) lastPosition) (a .position-is) ∙ a .within
+position-in-range text position e = let a = accepted-parts text position e in ap (outside (pos 0) lastPosition) (a .position-is) ∙ a .within

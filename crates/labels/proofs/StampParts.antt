@@ -109,11 +109,11 @@ pub record Long (hundreds twelve : List ℕ) : Type 0 where
   pub position-is : positionOf (hundreds ++ twelve) ≡ number hundreds * 360000000 + positionOf twelve
   pub below : isTimestamp twelve ≡ true → positionOf twelve < 360000000
 
-pub long : (hundreds twelve : List ℕ) → length twelve ≡ 12 → Long hundreds twelve
-long hundreds [] e = absurd (omega arith)
-long hundreds (h ∷ []) e = absurd (omega arith)
-long hundreds (h ∷ i ∷ []) e = absurd (omega arith)
-long hundreds (h ∷ i ∷ c ∷ nine) e =
+pub long-parts : (hundreds twelve : List ℕ) → length twelve ≡ 12 → Long hundreds twelve
+long-parts hundreds [] e = absurd (omega arith)
+long-parts hundreds (h ∷ []) e = absurd (omega arith)
+long-parts hundreds (h ∷ i ∷ []) e = absurd (omega arith)
+long-parts hundreds (h ∷ i ∷ c ∷ nine) e =
     let l : length nine ≡ 9 = omega arith in
     let t = h ∷ i ∷ c ∷ [] in
     let a = sym (append-assoc hundreds t nine) in

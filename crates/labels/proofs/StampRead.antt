@@ -22,7 +22,7 @@ use Rattle.labels.proofs.Words.{part-length}
 use Rattle.labels.proofs.Decimal.{digit-range, all-digits-more}
 use Rattle.labels.proofs.Shapes.{uneven}
 use Rattle.labels.proofs.StampNumbers.{no-stamp, is-stamp}
-use Rattle.labels.proofs.StampParts.{Long, long}
+use Rattle.labels.proofs.StampParts.{Long, long-parts}
 
 -- ---- the number of the digits in front, as far as it is read
 
@@ -133,7 +133,7 @@ module _ (text : List ℕ) (h : 12 ≤ length text) where
   whole = ap (λ l. hundreds ++ l) (take-all 12 (drop k text) (omega (arith, length-drop k text))) ∙ take-append-drop k text
 
   cut : Long hundreds twelve
-  cut = long hundreds twelve (part-length k 12 text (omega arith))
+  cut = long-parts hundreds twelve (part-length k 12 text (omega arith))
 
   is-both : isTimestamp text ≡ allDigits hundreds && isTimestamp twelve
   is-both = sym (ap isTimestamp whole) ∙ cut .is-both
@@ -169,8 +169,8 @@ module _ (text : List ℕ) (h : 12 ≤ length text) where
       d : (allDigits hundreds ≡ true) × ((leading hundreds ≡ limitedFrom 0 hundreds) × Follows (number hundreds) (limitedFrom 0 hundreds))
       d = are-digits hundreds (λ e. digits (f ∙ e))
 
-      stamp : isTimestamp text ≡ true
-      stamp = is-both ∙ ap₂ _&&_ (d .0) t
+      whole-is : isTimestamp text ≡ true
+      whole-is = is-both ∙ ap₂ _&&_ (d .0) t
 
       pub last-below : last < 360000000
       last-below = omega (arith, l, twelve-is t, cut .below t)
@@ -180,7 +180,7 @@ module _ (text : List ℕ) (h : 12 ≤ length text) where
       many-hours m =
           let n = d .1 .1 .1 (omega (arith, m, f, d .1 .0)) in
           let p : 359999999999 < positionOf text = omega (arith, position-is) in
-          sym (ap (λ t. cond t (cond (outside (pos 0) lastPosition (pos (positionOf text))) beyond (positionOf text)) wrong) stamp
+          sym (ap (λ t. cond t (cond (outside (pos 0) lastPosition (pos (positionOf text))) beyond (positionOf text)) wrong) whole-is
           ∙ ap₂ (λ a b. cond (a || b) beyond (positionOf text)) (le-ltb (positionOf text) 0 (omega arith)) (lt-ltb 359999999999 (positionOf text) p))
 
       pub all-hours : front ≤ 999 → front * 360000000 + last ≡ stampOf text
@@ -188,4 +188,4 @@ module _ (text : List ℕ) (h : 12 ≤ length text) where
           let n = d .1 .1 .0 (omega (arith, m, f, d .1 .0)) in
           let e : front * 360000000 + last ≡ positionOf text =
           omega (arith, position-is, ap (λ n. n * 360000000) n, ap (λ n. n * 360000000) (f ∙ d .1 .0), l, twelve-is t) in
-          e ∙ is-stamp text stamp (omega (arith, e, m, last-below))
+          e ∙ is-stamp text whole-is (omega (arith, e, m, last-below))

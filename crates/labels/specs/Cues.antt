@@ -11,7 +11,7 @@ use Rattle.refusal.specs.Numbers.{refusalNumber}
 use Rattle.refusal.specs.Outcome.{Outcome, value, refused, andThen}
 use Rattle.labels.specs.Timestamps.{positionOf, positionAnswer}
 use Rattle.labels.specs.CueLines.{CueLine, Timing, between, of-none}
-use Rattle.labels.specs.Timings.{timing}
+use Rattle.labels.specs.Timings.{timingOf}
 use Rattle.labels.specs.declared.webvtt.Cue.{Cue}
 use Rattle.labels.specs.declared.webvtt.CueAnswer.{CueAnswer}
 use Rattle.labels.specs.declared.webvtt.CueAnswer.the-variants as C
@@ -33,13 +33,13 @@ timingAnswer (between first second parts) = cueOf first second
 timingAnswer (of-none never) = refused 13
 
 -- 13 for a line that is no cue line, then what its two timestamps make; what `timing` decides stands in its type (specs/CueLines.antt)
-unfoldable pub cueAnswer : (line : List ℕ) → Outcome Cue
-cueAnswer line = timingAnswer (timing line)
+unfoldable pub cueLineAnswer : (line : List ℕ) → Outcome Cue
+cueLineAnswer line = timingAnswer (timingOf line)
 
 -- ---- the three answers, of which it is shown that each is given exactly then (labels/proofs/CueLaws.antt)
 
 -- a cue line with both positions in the range, and the end later than the start
-pub record Accepted (line : List ℕ) (cue : Cue) : Type 0 where
+pub record InOrder (line : List ℕ) (cue : Cue) : Type 0 where
   pub first : List ℕ
   pub second : List ℕ
   pub parts : CueLine line first second

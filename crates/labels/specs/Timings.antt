@@ -49,7 +49,7 @@ abbrev pub secondOf : (line : List ℕ) → List ℕ
 secondOf line = drop (secondAt line) line
 
 -- where the first timestamp ends, if there is one: where it is taken to end, it does
-pub record FirstEnd (line : List ℕ) (at : ℕ) : Type 0 where
+pub record EndsFirst (line : List ℕ) (at : ℕ) : Type 0 where
   pub if-there : isTimestamp (firstOf line) ≡ true → at ≡ firstEnd line
   pub if-taken : isTimestamp (take at line) ≡ true → at ≡ firstEnd line
 
@@ -178,8 +178,8 @@ pub record Cuts (line first second : List ℕ) : Type 0 where
   pub gap-behind : arrowAt line + 3 < secondAt line
   pub second-cut : secondOf line ≡ second
 
-pub cuts : (line first second : List ℕ) → CueLine line first second → Cuts line first second
-cuts line first second c =
+pub cuts-of : (line first second : List ℕ) → CueLine line first second → Cuts line first second
+cuts-of line first second c =
     let before = c .before in
     let behind = c .behind in
     let rest = before ++ (arrow ++ (behind ++ second)) in
@@ -245,13 +245,13 @@ parts line h =
 
 pub is-cue : (line first second : List ℕ) → CueLine line first second → isCueLine line ≡ true
 is-cue line first second c =
-    let k = cuts line first second c in
+    let k = cuts-of line first second c in
     ap₂ _&&_
     (ap₂ _&&_ (lt-ltb (firstEnd line) (arrowAt line) (k .gap-before)) (ap₂ _&&_ (ap (fits arrow) (k .arrow-cut)) (lt-ltb (arrowAt line + 3) (secondAt line) (k .gap-behind))))
     (ap₂ _&&_ (ap isTimestamp (k .first-cut) ∙ c .first-is) (ap isTimestamp (k .second-cut) ∙ c .second-is))
 
-pub timing : (line : List ℕ) → Timing line
-timing line = go (isCueLine line) refl
+pub timingOf : (line : List ℕ) → Timing line
+timingOf line = go (isCueLine line) refl
   where
     go : (t : Bool) → isCueLine line ≡ t → Timing line
     go true e = between (firstOf line) (secondOf line) (parts line e)

@@ -7,7 +7,7 @@ ghost use lib.ListN.{length, drop};
 ghost use Rattle.labels.specs.Digits.{fits};
 ghost use Rattle.labels.specs.Words.{partOf};
 ghost use Rattle.labels.specs.CueLines.{isBlank, arrow};
-ghost use Rattle.labels.specs.Timings.{run, usualGap, FirstEnd};
+ghost use Rattle.labels.specs.Timings.{run, usualGap, EndsFirst};
 
 const SPACE: u8 = b' ';
 
@@ -38,7 +38,7 @@ pub fn has_gap(line: &[u8], at: usize) -> bool
 // Where the first timestamp of a line ends, if it begins with one: a timestamp has nine bytes, or twelve and more.
 pub fn first_end(line: &[u8]) -> usize
     requires { ⌜ 13 ≤ length (now line) ⌝ }
-    ensures { λ r. ⌜ FirstEnd (now (line .entry)) r × (r ≤ length (now (line .entry))) ⌝ }
+    ensures { λ r. ⌜ EndsFirst (now (line .entry)) r × (r ≤ length (now (line .entry))) ⌝ }
 {
     if is_blank(line[9]) {
         return 9;

@@ -27,7 +27,7 @@ ghost use Rattle.labels.specs.Webvtt.{hourDigits, clockOf, positionLabel
 ghost use Rattle.labels.specs.Digits.{digits};
 ghost use Rattle.labels.specs.Clock.{colon};
 ghost use Rattle.labels.specs.Timestamps.{positionAnswer};
-ghost use Rattle.labels.specs.Cues.{cueOutcome, cueAnswer};
+ghost use Rattle.labels.specs.Cues.{cueOutcome, cueLineAnswer};
 ghost use Rattle.labels.specs.Stamps.{Stamp, cueOfStamps};
 
 // The start and the end of a cue, in milliseconds.
@@ -137,7 +137,7 @@ pub fn read_position(text: &[u8]) -> NumberAnswer
 // The start and the end of a cue timing line. 13 for a line of another shape, then 6 for a position above the limit, then 13 for an end
 // not later than its start.
 pub fn read_cue(line: &[u8]) -> CueAnswer
-    ensures { λ r. ⌜ cueOutcome r ≡ cueAnswer (now (line .entry)) ⌝ }
+    ensures { λ r. ⌜ cueOutcome r ≡ cueLineAnswer (now (line .entry)) ⌝ }
 {
     // The two usual lines: timestamps of twelve or of nine bytes, and one space each side of the arrow.
     if line.len() == 29 {
@@ -163,7 +163,7 @@ pub fn read_cue(line: &[u8]) -> CueAnswer
 
 // The same of any line.
 fn read_any_cue(line: &[u8]) -> CueAnswer
-    ensures { λ r. ⌜ cueOutcome r ≡ cueAnswer (now (line .entry)) ⌝ }
+    ensures { λ r. ⌜ cueOutcome r ≡ cueLineAnswer (now (line .entry)) ⌝ }
 {
     if line.len() < SHORTEST_LINE {
         return malformed();

@@ -24,8 +24,8 @@ use Rattle.labels.specs.Rfc3339.{decimals, dateShape, timeShape, labelText, ins
 use Rattle.labels.specs.Webvtt.{lastPosition, positionLabel}
 use Rattle.labels.specs.Timestamps.{isTimestamp, positionOf, positionAnswer}
 use Rattle.labels.specs.CueLines.{Timing, between, of-none}
-use Rattle.labels.specs.Timings.{timing}
-use Rattle.labels.specs.Cues.{cueOf, timingAnswer, cueAnswer}
+use Rattle.labels.specs.Timings.{timingOf}
+use Rattle.labels.specs.Cues.{cueOf, timingAnswer, cueLineAnswer}
 use Rattle.labels.specs.declared.webvtt.Cue.{Cue}
 use Rattle.constants.specs.Least.{Found, at, none, leastBelow}
 use Rattle.constants.specs.Limits.{lastEnd, outsideLimits, endOutside, boundOutside}
@@ -159,9 +159,9 @@ read-position-tells text =
     guarded returned (isTimestamp text) _ _ (guarded returned (outside (pos 0) lastPosition (pos (positionOf text))) _ _ (told refl) (told refl)) (told refl)
 
 -- a cue line refuses what one of its timestamps does
-pub read-cue-tells : (line : List ℕ) → Tells returnedDone (cueAnswer line)
-unfolding cueAnswer cueOf
-read-cue-tells line = go (timing line)
+pub read-cue-tells : (line : List ℕ) → Tells returnedDone (cueLineAnswer line)
+unfolding cueLineAnswer cueOf
+read-cue-tells line = go (timingOf line)
   where
     both : (a b : Outcome ℤ) (earlier : Bool) → Tells returned a → Tells returned b →
         Tells {A = Cue} returnedDone (andThen a (λ start. andThen b (λ end. cond earlier (value (record { start = start; end = end })) (refused 13))))

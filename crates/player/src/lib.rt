@@ -28,7 +28,7 @@ ghost use Rattle.labels.specs.Written.{bytesWritten, writtenBuffer};
 ghost use Rattle.labels.specs.Rfc3339.{instantLabel, readAnswer};
 ghost use Rattle.labels.specs.Webvtt.{positionLabel};
 ghost use Rattle.labels.specs.Timestamps.{positionAnswer};
-ghost use Rattle.labels.specs.Cues.{cueAnswer};
+ghost use Rattle.labels.specs.Cues.{cueLineAnswer};
 ghost use Rattle.constants.specs.Answers.{differenceAnswer, boundAnswer};
 ghost use Rattle.player.specs.Returned.{returned, returnedCount, returnedFlag, returnedDone, returnedFound, dateNumbers, fieldsNumbers, cueNumbers, afterRefusal};
 
@@ -170,8 +170,8 @@ pub extern "C" fn ovenquill_read_position(text: &[u8]) -> i64
 
 #[no_mangle]
 pub extern "C" fn ovenquill_read_cue(line: &[u8], cue: &mut [i64; 2]) -> i64
-    ensures answer { λ r. ⌜ r ≡ returnedDone (cueAnswer (now (line .entry))) ⌝ }
-    ensures cue { λ r. ⌜ now (cue .exit) ≡ afterCall (cueAnswer (now (line .entry))) cueNumbers (now (cue .entry)) ⌝ }
+    ensures answer { λ r. ⌜ r ≡ returnedDone (cueLineAnswer (now (line .entry))) ⌝ }
+    ensures cue { λ r. ⌜ now (cue .exit) ≡ afterCall (cueLineAnswer (now (line .entry))) cueNumbers (now (cue .entry)) ⌝ }
 {
     give::cue(labels::webvtt::read_cue(line), cue)
 }

@@ -19,7 +19,7 @@ use Rattle.instant.specs.Answers.{dayAnswer, splitAnswer}
 use Rattle.labels.specs.Rfc3339.{numbersText, labelText, instantLabel}
 use Rattle.labels.specs.Webvtt.{positionLabel}
 use Rattle.labels.specs.Timestamps.{positionAnswer}
-use Rattle.labels.specs.Cues.{cueOf, cueAnswer}
+use Rattle.labels.specs.Cues.{cueOf, cueLineAnswer}
 use Rattle.labels.proofs.CueParts.{cue-line}
 use Rattle.constants.specs.Difference.{exactQuotient, deviceQuotient, differs}
 use Rattle.constants.specs.Least.{at, leastBelow}
@@ -170,7 +170,7 @@ written-row = refl
 
 -- `00:01.000 --> 00:02.500`
 pub cue-row :
-    cueAnswer (48 ∷ 48 ∷ 58 ∷ 48 ∷ 49 ∷ 46 ∷ 48 ∷ 48 ∷ 48 ∷ 32 ∷ 45 ∷ 45 ∷ 62 ∷ 32 ∷ 48 ∷ 48 ∷ 58 ∷ 48 ∷ 50 ∷ 46 ∷ 53 ∷ 48 ∷ 48 ∷ [])
+    cueLineAnswer (48 ∷ 48 ∷ 58 ∷ 48 ∷ 49 ∷ 46 ∷ 48 ∷ 48 ∷ 48 ∷ 32 ∷ 45 ∷ 45 ∷ 62 ∷ 32 ∷ 48 ∷ 48 ∷ 58 ∷ 48 ∷ 50 ∷ 46 ∷ 53 ∷ 48 ∷ 48 ∷ [])
     ≡ value (record { start = pos 1000; end = pos 2500 })
 unfolding cueOf positionAnswer
 cue-row =
