@@ -1,27 +1,29 @@
 -- What the code finds out about a line, from where its blanks begin and end.
 use Prim.Native.Nat.{ℕ, _+_, _-_, _≤_, _<_}
 use mathlib.Core.Path.{_≡_, refl, sym, ap, ap₂, _∙_}
-use mathlib.Core.Bool.{Bool, true, false, cond, _&&_}
+use mathlib.Core.Bool.{Bool, true, false, cond, _&&_, and-false}
 use mathlib.Core.List.{List, _++_}
 use native.Mathlib.Omega.{arith}
 use borrow.Author.Tests.{lt-ltb, le-ltb}
 use lib.Dec.{ltb}
-use lib.ListN.{length, take, drop, length-append, length-take, length-drop}
+use lib.ListN.{length, getD, take, drop, length-append, length-take, length-drop}
 use lib.Seq.{take-all}
 use Rattle.refusal.specs.Outcome.{Outcome, refused}
 use Rattle.numbers.proofs.Bools.{no-both, and-left, and-right}
 use Rattle.labels.specs.Digits.{fits}
 use Rattle.labels.specs.Words.{partOf}
 use Rattle.labels.specs.Timestamps.{isTimestamp}
-use Rattle.labels.specs.CueLines.{arrow}
-use Rattle.labels.specs.Timings.{run, firstEnd, arrowAt, secondAt, hasArrow, firstOf, secondOf, EndsFirst, some-blanks, is-cue}
+use Rattle.labels.specs.CueLines.{isBlank, arrow}
+use Rattle.labels.specs.Timings.{run, firstEnd, arrowAt, secondAt, hasArrow, firstOf, secondOf, EndsFirst, some-blanks, marks-fit, is-cue}
 use Rattle.labels.specs.Cues.{cueLineAnswer}
 use Rattle.labels.specs.Stamps.{stampOf, cueOfStamps}
 use Rattle.labels.specs.declared.webvtt.Cue.{Cue}
+use Rattle.labels.proofs.Words.{part-three}
 use Rattle.labels.proofs.Shapes.{uneven}
 use Rattle.labels.proofs.StampNumbers.{no-stamp}
 use Rattle.labels.proofs.StampRead.{stamp-length}
 use Rattle.labels.proofs.CueParts.{no-cue-line}
+use Rattle.labels.proofs.CueRuns.{solid-goes-on}
 use Rattle.labels.proofs.CueStamps.{by-cuts}
 
 -- a cue line has 23 bytes or more
@@ -71,28 +73,31 @@ module _ (line : List ℕ) where
     at-arrow : a ≡ firstEnd line → p ≡ arrowAt line
     at-arrow e = ep ∙ ap (λ a. a + run true (drop a line)) e
 
-    -- no blank in front of the arrow
-    pub glued-front : p ≡ a → refused 13 ≡ cueLineAnswer line
-    glued-front g =
-        if-first (λ e. no-arrow (ap (λ t. t && (fits arrow (take 3 (drop (arrowAt line) line)) && ltb (arrowAt line + 3) (secondAt line)))
-        (le-ltb (firstEnd line) (arrowAt line) (omega (arith, e, at-arrow e, g)))))
+    -- no arrow stands there
+    pub no-mark : {t : Bool} → t ≡ fits arrow (partOf p 3 line) → t ≡ false → refused 13 ≡ cueLineAnswer line
+    no-mark m n =
+        if-first (λ e. no-arrow (
+        ap (λ t. ltb (firstEnd line) (arrowAt line) && (t && ltb (arrowAt line + 3) (secondAt line))) (sym (ap (λ p. fits arrow (partOf p 3 line)) (at-arrow e)) ∙ sym m ∙ n)
+        ∙ and-false (ltb (firstEnd line) (arrowAt line))))
 
-    module _ (apart : p ≡ a → ⊥) where
+    pub cut-short : length line - p < 3 → refused 13 ≡ cueLineAnswer line
+    cut-short l = no-mark refl (uneven arrow (partOf p 3 line) (λ e. omega (arith, l, e, length-take 3 (drop p line), length-drop p line)))
+
+    -- an arrow stands there, so that there is a blank in front of it: the bytes that are none do not end before a dash
+    module _ (l : 3 ≤ length line - p) {t : Bool} (m : t ≡ fits arrow (partOf p 3 line)) (y : t ≡ true) where
+      dash : getD line p 0 ≡ 45
+      dash = ap (λ l. getD l 0 0) (sym (part-three p line (omega arith)) ∙ marks-fit arrow (partOf p 3 line) (refl, (refl, (refl, tt))) (sym m ∙ y))
+
+      apart : a ≡ firstEnd line → p ≡ a → ⊥
+      apart e g = solid-goes-on line p (omega arith) (ap isBlank dash) (sym e ∙ sym g)
+
       before : a ≡ firstEnd line → ltb (firstEnd line) (arrowAt line) ≡ true
-      before e = lt-ltb (firstEnd line) (arrowAt line) (omega (arith, apart, ep, e, at-arrow e))
+      before e = lt-ltb (firstEnd line) (arrowAt line) (omega (arith, apart e, ep, e, at-arrow e))
 
-      pub no-mark : {t : Bool} → t ≡ fits arrow (partOf p 3 line) → t ≡ false → refused 13 ≡ cueLineAnswer line
-      no-mark m n =
-          if-first (λ e. no-arrow (ap₂ _&&_ (before e)
-          (ap (λ t. t && ltb (arrowAt line + 3) (secondAt line)) (sym (ap (λ p. fits arrow (partOf p 3 line)) (at-arrow e)) ∙ sym m ∙ n))))
+      there : a ≡ firstEnd line → fits arrow (take 3 (drop (arrowAt line) line)) ≡ true
+      there e = sym (ap (λ p. fits arrow (partOf p 3 line)) (at-arrow e)) ∙ sym m ∙ y
 
-      pub cut-short : length line - p < 3 → refused 13 ≡ cueLineAnswer line
-      cut-short l = no-mark refl (uneven arrow (partOf p 3 line) (λ e. omega (arith, l, e, length-take 3 (drop p line), length-drop p line)))
-
-      module _ {t : Bool} (m : t ≡ fits arrow (partOf p 3 line)) (y : t ≡ true) {q : ℕ} (eq : q ≡ p + 3 + run true (drop (p + 3) line)) where
-        there : a ≡ firstEnd line → fits arrow (take 3 (drop (arrowAt line) line)) ≡ true
-        there e = sym (ap (λ p. fits arrow (partOf p 3 line)) (at-arrow e)) ∙ sym m ∙ y
-
+      module _ {q : ℕ} (eq : q ≡ p + 3 + run true (drop (p + 3) line)) where
         at-second : a ≡ firstEnd line → q ≡ secondAt line
         at-second e = eq ∙ ap (λ p. p + 3 + run true (drop (p + 3) line)) (at-arrow e)
 

@@ -1,12 +1,10 @@
 -- When a cue line is accepted, and when it is refused with 6 and with 13.
 use Prim.Native.Nat.{ℕ}
-use mathlib.Core.Path.{_≡_, refl, sym, ap₂, _∙_, subst}
+use mathlib.Core.Path.{_≡_, refl, sym, ap, ap₂, _∙_, subst}
 use mathlib.Core.Logic.{_↔_, _⊎_, inl, inr}
 use mathlib.Core.Bool.{Bool, true, false, cond}
 use mathlib.Core.List.{List}
 use native.Mathlib.Omega.{arith}
-use borrow.Author.Tests.{ltb-true, ltb-false, lt-ltb, le-ltb}
-use lib.Dec.{ltb}
 use lib.IntN.{ℤ, pos}
 use lib.Signed.{ltZ}
 use Rattle.refusal.specs.Outcome.{Outcome, value, refused, andThen}
@@ -19,21 +17,24 @@ use Rattle.labels.specs.Timings.{timingOf}
 use Rattle.labels.specs.Cues.{cueOf, cueLineAnswer, InOrder, AboveLimit, NotLater}
 use Rattle.labels.specs.declared.webvtt.Cue.{Cue}
 use Rattle.labels.proofs.CueParts.{cue-line, no-cue-line}
-use Rattle.labels.proofs.ReadBack.{accepted-parts, position-in-range}
+use Rattle.labels.proofs.ReadBack.{position-in-range}
 
 -- ---- two timestamps
 
 -- what the answers to two timestamps make
-abbrev both : (a b : Outcome ℤ) (earlier : Bool) → Outcome Cue
-both a b earlier = andThen a (λ start. andThen b (λ end. cond earlier (value (record { start = start; end = end })) (refused 13)))
+abbrev both : (a b : Outcome ℤ) → Outcome Cue
+both a b = andThen a (λ start. andThen b (λ end. cond (ltZ start end) (value (record { start = start; end = end })) (refused 13)))
 
 module _ (first second : List ℕ) where
-  abbrev earlier : Bool
-  earlier = ltb (positionOf first) (positionOf second)
-
-  pair : {a b : Outcome ℤ} {t : Bool} → positionAnswer first ≡ a → positionAnswer second ≡ b → earlier ≡ t → cueOf first second ≡ both a b t
+  pair : {a b : Outcome ℤ} → positionAnswer first ≡ a → positionAnswer second ≡ b → cueOf first second ≡ both a b
   unfolding cueOf
-  pair p q r = λ i. both (p i) (q i) (r i)
+  pair p q = ap₂ both p q
+
+  -- and of two positions in the range
+  order :
+      {start end : ℤ} {t : Bool} → positionAnswer first ≡ value start → positionAnswer second ≡ value end → ltZ start end ≡ t →
+      cueOf first second ≡ cond t (value (record { start = start; end = end })) (refused 13)
+  order {start} {end} p q t = pair p q ∙ ap (λ t. cond t (value (record { start = start; end = end })) (refused 13)) t
 
 -- a timestamp is above the limit or in the range
 six-or-read : {G : Type 0} (text : List ℕ) → isTimestamp text ≡ true → (positionAnswer text ≡ refused 6 → G) → ((z : ℤ) → positionAnswer text ≡ value z → G) → G
@@ -57,34 +58,25 @@ by-cue :
 by-cue {G} line missing high late given = go (timingOf line)
   where
     ordered : (first second : List ℕ) → CueLine line first second → (start end : ℤ) → positionAnswer first ≡ value start → positionAnswer second ≡ value end →
-        (t : Bool) → ltb (positionOf first) (positionOf second) ≡ t → G
+        (t : Bool) → ltZ start end ≡ t → G
     ordered first second d start end p q true t =
         given (record { start = start; end = end })
-        (record { first = first; second = second; parts = d; start-read = p; end-read = q; later = ltb-true (positionOf first) (positionOf second) t })
-        (cue-line line first second d ∙ pair first second p q t)
+        (record { first = first; second = second; parts = d; start-read = p; end-read = q; later = t })
+        (cue-line line first second d ∙ order first second p q t)
     ordered first second d start end p q false t =
         late
-        (record {
-          first = first;
-          second = second;
-          parts = d;
-          start = start;
-          end = end;
-          start-read = p;
-          end-read = q;
-          not-later = ltb-false (positionOf first) (positionOf second) t;
-        })
-        (cue-line line first second d ∙ pair first second p q t)
+        (record { first = first; second = second; parts = d; start = start; end = end; start-read = p; end-read = q; not-later = t })
+        (cue-line line first second d ∙ order first second p q t)
 
     go : Timing line → G
     go (of-none never) = missing never (no-cue-line line never)
     go (between first second d) =
         six-or-read first (d .first-is)
-        (λ p. high (record { first = first; second = second; parts = d; above = inl p }) (cue-line line first second d ∙ pair first second p refl refl))
+        (λ p. high (record { first = first; second = second; parts = d; above = inl p }) (cue-line line first second d ∙ pair first second p refl))
         (λ start p.
         six-or-read second (d .second-is)
-        (λ q. high (record { first = first; second = second; parts = d; above = inr q }) (cue-line line first second d ∙ pair first second p q refl))
-        (λ end q. ordered first second d start end p q (ltb (positionOf first) (positionOf second)) refl))
+        (λ q. high (record { first = first; second = second; parts = d; above = inr q }) (cue-line line first second d ∙ pair first second p q))
+        (λ end q. ordered first second d start end p q (ltZ start end) refl))
 
 -- a line is accepted exactly if it is a cue line with both positions in the range, and the end later than the start
 pub cue-exactly : (line : List ℕ) (c : Cue) → (cueLineAnswer line ≡ value c) ↔ InOrder line c
@@ -94,7 +86,7 @@ cue-exactly line c = (
       (λ d r a. subst (InOrder line) (same-value (sym a ∙ e)) r),
   λ r.
       cue-line line (r .first) (r .second) (r .parts)
-      ∙ pair (r .first) (r .second) (r .start-read) (r .end-read) (lt-ltb (positionOf (r .first)) (positionOf (r .second)) (r .later)),
+      ∙ order (r .first) (r .second) (r .start-read) (r .end-read) (r .later),
 )
 
 -- it is refused with 6 exactly if it is a cue line one of whose positions is above the limit
@@ -109,8 +101,8 @@ cue-six-exactly line = (
     thirteen e = let z : _≡_ {A = ℕ} 13 6 = cc in absurd (omega arith)
 
     of-two : (first second : List ℕ) → isTimestamp first ≡ true → (positionAnswer first ≡ refused 6) ⊎ (positionAnswer second ≡ refused 6) → cueOf first second ≡ refused 6
-    of-two first second t (inl p) = pair first second p refl refl
-    of-two first second t (inr q) = six-or-read first t (λ p. pair first second p refl refl) (λ start p. pair first second p q refl)
+    of-two first second t (inl p) = pair first second p refl
+    of-two first second t (inr q) = six-or-read first t (λ p. pair first second p refl) (λ start p. pair first second p q)
 
 -- it is refused with 13 exactly if it is no cue line, or one with both positions in the range and an end not later than the start
 pub cue-thirteen-exactly :
@@ -127,7 +119,7 @@ cue-thirteen-exactly line = (
     either (inl n) = no-cue-line line n
     either (inr l) =
         cue-line line (l .first) (l .second) (l .parts)
-        ∙ pair (l .first) (l .second) (l .start-read) (l .end-read) (le-ltb (positionOf (l .first)) (positionOf (l .second)) (l .not-later))
+        ∙ order (l .first) (l .second) (l .start-read) (l .end-read) (l .not-later)
 
 -- an accepted cue has both positions in the range, and the start before the end
 pub cue-in-order :
@@ -135,8 +127,4 @@ pub cue-in-order :
     ((outside (pos 0) lastPosition (c .start) ≡ false) × (outside (pos 0) lastPosition (c .end) ≡ false)) × (ltZ (c .start) (c .end) ≡ true)
 cue-in-order line c e =
     let r = cue-exactly line c .0 e in
-    let s = accepted-parts (r .first) (c .start) (r .start-read) in
-    let t = accepted-parts (r .second) (c .end) (r .end-read) in (
-      (position-in-range (r .first) (c .start) (r .start-read), position-in-range (r .second) (c .end) (r .end-read)),
-      ap₂ ltZ (s .position-is) (t .position-is) ∙ lt-ltb (positionOf (r .first)) (positionOf (r .second)) (r .later),
-    )
+    ((position-in-range (r .first) (c .start) (r .start-read), position-in-range (r .second) (c .end) (r .end-read)), r .later)

@@ -40,7 +40,7 @@ front-run : (b : ℕ) (bs : List ℕ) (t : Bool) → isBlank b ≡ t → run fal
 front-run b bs t e = ap (λ t. cond (not t) (suc (run false bs)) 0) e
 
 -- they end at a blank, and not before another byte
-pub blank-stops : (line : List ℕ) (i : ℕ) → i < length line → isBlank (getD line i 0) ≡ true → run false line ≤ i
+blank-stops : (line : List ℕ) (i : ℕ) → i < length line → isBlank (getD line i 0) ≡ true → run false line ≤ i
 blank-stops [] i h e = absurd (omega arith)
 blank-stops (b ∷ bs) zero h e = omega (arith, front-run b bs true e)
 blank-stops (b ∷ bs) (suc i) h e = step (isBlank b) refl (blank-stops bs i (omega arith) e)
@@ -59,14 +59,14 @@ solid-goes-on (b ∷ bs) (suc i) h e r = step (isBlank b) refl (solid-goes-on bs
     step false f never = never (omega (arith, front-run b bs false f))
 
 -- as many bytes as are known to be no blanks
-pub solid-run : (line : List ℕ) (k : ℕ) → k ≤ length line → AllAre false (take k line) → k ≤ run false line
+solid-run : (line : List ℕ) (k : ℕ) → k ≤ length line → AllAre false (take k line) → k ≤ run false line
 solid-run line zero h a = omega arith
 solid-run [] (suc k) h a = absurd (omega arith)
 solid-run (b ∷ bs) (suc k) h a =
     let l = solid-run bs k (omega arith) (a .1) in
     omega (arith, front-run b bs false (not-true (isBlank b) (a .0)))
 
-pub run-from : (line : List ℕ) (k : ℕ) → k ≤ run false line → run false line ≡ k + run false (drop k line)
+run-from : (line : List ℕ) (k : ℕ) → k ≤ run false line → run false line ≡ k + run false (drop k line)
 run-from line zero h = omega arith
 run-from [] (suc k) h = absurd (omega arith)
 run-from (b ∷ bs) (suc k) h = step (isBlank b) refl (run-from bs k)

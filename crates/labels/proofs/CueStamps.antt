@@ -8,6 +8,7 @@ use borrow.Author.Tests.{eqb-false, ne-eqb, lt-ltb, le-ltb}
 use lib.Bits.{bitOr, or-lt, or-add-and, and-le-l, and-le-r}
 use lib.Dec.{eqb, ltb}
 use lib.IntN.{pos}
+use lib.Signed.{ltZ}
 use Rattle.refusal.specs.Outcome.{Outcome, value, refused, andThen}
 use Rattle.numbers.proofs.Bools.{no-both}
 use Rattle.labels.specs.Timestamps.{isTimestamp, positionOf, positionAnswer}
@@ -97,7 +98,7 @@ abbrev ordered : (first second : List ℕ) → (t u o r : Bool) → Outcome Cue
 ordered first second t u o r =
     andThen (cond t (cond o (refused 6) (value (pos (positionOf first)))) (refused 13)) (λ start.
     andThen (cond u (cond r (refused 6) (value (pos (positionOf second)))) (refused 13)) (λ end.
-    cond (ltb (positionOf first) (positionOf second)) (value (record { start = start; end = end })) (refused 13)))
+    cond (ltZ start end) (value (record { start = start; end = end })) (refused 13)))
 
 pub cue-of-texts : (first second : List ℕ) → isTimestamp first ≡ true → isTimestamp second ≡ true → cueOf first second ≡ cueOfStamps (stampOf first) (stampOf second)
 unfolding cueOf positionAnswer

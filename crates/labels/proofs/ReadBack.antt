@@ -206,7 +206,7 @@ no-leading-zero n last many =
     (λ a b e. omega (arith, place-100 h)) (λ a b e. omega (arith, place-1000 h)) (λ a e. omega (arith, place-1000 h, div-div-eq-div-mul h 1000 10))
 
 -- a written label has full hours
-full-written : (n : ℕ) → n ≤ natAbs lastPosition → hasFullHours (positionText n) ≡ true
+pub full-written : (n : ℕ) → n ≤ natAbs lastPosition → hasFullHours (positionText n) ≡ true
 full-written n last = go (eqb (length (positionText n)) 12) refl
   where
     many : (hourDigits (n / perHour) ≡ 2 → ⊥) → 100 ≤ n / perHour

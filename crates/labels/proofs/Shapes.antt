@@ -42,7 +42,7 @@ zeros (suc count) = ap (λ (l : List ℕ). l ++ 48 ∷ []) (zeros count) ∙ sno
     snoc zero = refl
     snoc (suc n) = ap (λ (l : List ℕ). 48 ∷ l) (snoc n)
 
-pub zeros-fit : (count : ℕ) (text : List ℕ) → fits (replicate count 48) text ≡ true → (length text ≡ count) × (allDigits text ≡ true)
+zeros-fit : (count : ℕ) (text : List ℕ) → fits (replicate count 48) text ≡ true → (length text ≡ count) × (allDigits text ≡ true)
 zeros-fit zero [] h = (refl, refl)
 zeros-fit zero (b ∷ bs) h = no-both false h refl
 zeros-fit (suc count) [] h = no-both false h refl

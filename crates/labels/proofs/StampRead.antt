@@ -26,7 +26,7 @@ use Rattle.labels.proofs.StampParts.{Long, long-parts}
 
 -- ---- the number of the digits in front, as far as it is read
 
-abbrev pub Follows : (number limited : ℕ) → Type 0
+abbrev Follows : (number limited : ℕ) → Type 0
 Follows number limited = (limited ≤ 999 → number ≡ limited) × (999 < limited → 999 < number)
 
 follow : (n m : ℕ) (text : List ℕ) → allDigits text ≡ true → Follows n m → Follows (numberFrom n text) (limitedFrom m text)
@@ -71,14 +71,14 @@ leading-more text i n right h so-far {m} {digit} e d =
 
 -- the digits in front, from their number
 module _ (text : List ℕ) where
-  pub no-leading : leading text ≡ wrong → allDigits text ≡ false
+  no-leading : leading text ≡ wrong → allDigits text ≡ false
   no-leading e = go (allDigits text) e
     where
       go : (t : Bool) → cond t (limitedFrom 0 text) wrong ≡ wrong → t ≡ false
       go true e = absurd (omega (arith, e, limited-below 0 text (omega arith)))
       go false e = refl
 
-  pub are-digits : (leading text ≡ wrong → ⊥) → (allDigits text ≡ true) × ((leading text ≡ limitedFrom 0 text) × Follows (number text) (limitedFrom 0 text))
+  are-digits : (leading text ≡ wrong → ⊥) → (allDigits text ≡ true) × ((leading text ≡ limitedFrom 0 text) × Follows (number text) (limitedFrom 0 text))
   are-digits never = go (allDigits text) refl never
     where
       go : (t : Bool) → allDigits text ≡ t → (cond t (limitedFrom 0 text) wrong ≡ wrong → ⊥) →

@@ -1,15 +1,15 @@
 -- What a cue timing line answers: document 02, request One, "13 for a wrong shape, 6 for a position above the limit, and on a cue line 13
 -- again for an end not later than its start".
-use Prim.Native.Nat.{ℕ, _≤_, _<_}
+use Prim.Native.Nat.{ℕ}
 use mathlib.Core.Path.{_≡_}
 use mathlib.Core.Logic.{_⊎_}
-use mathlib.Core.Bool.{cond}
+use mathlib.Core.Bool.{true, false, cond}
 use mathlib.Core.List.{List}
-use lib.Dec.{ltb}
 use lib.IntN.{ℤ}
+use lib.Signed.{ltZ}
 use Rattle.refusal.specs.Numbers.{refusalNumber}
 use Rattle.refusal.specs.Outcome.{Outcome, value, refused, andThen}
-use Rattle.labels.specs.Timestamps.{positionOf, positionAnswer}
+use Rattle.labels.specs.Timestamps.{positionAnswer}
 use Rattle.labels.specs.CueLines.{CueLine, Timing, between, of-none}
 use Rattle.labels.specs.Timings.{timingOf}
 use Rattle.labels.specs.declared.webvtt.Cue.{Cue}
@@ -26,13 +26,13 @@ unfoldable pub cueOf : (first second : List ℕ) → Outcome Cue
 cueOf first second =
     andThen (positionAnswer first) (λ start.
     andThen (positionAnswer second) (λ end.
-    cond (ltb (positionOf first) (positionOf second)) (value (record { start = start; end = end })) (refused 13)))
+    cond (ltZ start end) (value (record { start = start; end = end })) (refused 13)))
 
 abbrev pub timingAnswer : {line : List ℕ} → Timing line → Outcome Cue
 timingAnswer (between first second parts) = cueOf first second
 timingAnswer (of-none never) = refused 13
 
--- 13 for a line that is no cue line, then what its two timestamps make; what `timing` decides stands in its type (specs/CueLines.antt)
+-- 13 for a line that is no cue line, then what its two timestamps make; of `timingOf` only its type has to be believed
 unfoldable pub cueLineAnswer : (line : List ℕ) → Outcome Cue
 cueLineAnswer line = timingAnswer (timingOf line)
 
@@ -45,7 +45,7 @@ pub record InOrder (line : List ℕ) (cue : Cue) : Type 0 where
   pub parts : CueLine line first second
   pub start-read : positionAnswer first ≡ value (cue .start)
   pub end-read : positionAnswer second ≡ value (cue .end)
-  pub later : positionOf first < positionOf second
+  pub later : ltZ (cue .start) (cue .end) ≡ true
 
 -- a cue line one of whose positions is above the limit
 pub record AboveLimit (line : List ℕ) : Type 0 where
@@ -63,4 +63,4 @@ pub record NotLater (line : List ℕ) : Type 0 where
   pub end : ℤ
   pub start-read : positionAnswer first ≡ value start
   pub end-read : positionAnswer second ≡ value end
-  pub not-later : positionOf second ≤ positionOf first
+  pub not-later : ltZ start end ≡ false

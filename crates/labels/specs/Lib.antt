@@ -7,7 +7,7 @@ pub mod Written
 pub mod Timestamps
 pub mod CueLines
 pub mod Cues
--- What only proofs and private contracts need.
+-- What only proofs and private contracts need, but for the type of `timingOf`.
 pub mod Words
 pub mod Filled
 pub mod Parts

@@ -44,7 +44,7 @@ hoursValue front = number (hoursText front)
 abbrev pub positionOf : (text : List ℕ) → ℕ
 positionOf text = hoursValue (inFront text) * perHour + clockValue (lastNine text)
 
--- hours of two digits, or of more and with no zero in front
+-- of a timestamp: it has hours, of two digits, or of more and with no zero in front
 abbrev pub hasFullHours : (text : List ℕ) → Bool
 hasFullHours text = eqb (length text) 12 || (ltb 12 (length text) && not (eqb (getD text 0 0) 48))
 

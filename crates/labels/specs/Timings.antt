@@ -1,5 +1,5 @@
--- Whether a line is a cue line, found from where its blanks begin and end, for proofs and private contracts only: nobody has to believe
--- it, since what `timing` decides stands in its type.
+-- Whether a line is a cue line, found from where its blanks begin and end. Of all this only the type of `timingOf` has to be believed;
+-- the rest is its proof, and for private contracts.
 use Prim.Native.Nat.{ℕ, zero, suc, _+_, _-_, _≤_, _<_}
 use mathlib.Core.Path.{_≡_, refl, sym, ap, ap₂, _∙_, subst}
 use mathlib.Core.Bool.{Bool, true, false, cond, not, _&&_, _||_}

@@ -13,6 +13,9 @@ const SPACE: u8 = b' ';
 
 const TAB: u8 = b'\t';
 
+// ` -->` as a number, the first byte the lowest.
+const SPACE_AND_ARROW: u64 = 0x3e2d_2d20;
+
 // Whether `-->` stands from byte `at` of a line on.
 pub fn has_arrow(line: &[u8], at: usize) -> bool
     requires { ⌜ at + 3 ≤ length (now line) ⌝ }
@@ -32,7 +35,7 @@ pub fn has_gap(line: &[u8], at: usize) -> bool
     requires { ⌜ at + 5 ≤ length (now line) ⌝ }
     ensures { λ r. ⌜ r ≡ fits usualGap (partOf at 5 (now (line .entry))) ⌝ }
 {
-    digits::four_bytes(line, at) == 0x3e2d_2d20 && line[at + 4] == SPACE
+    digits::four_bytes(line, at) == SPACE_AND_ARROW && line[at + 4] == SPACE
 }
 
 // Where the first timestamp of a line ends, if it begins with one: a timestamp has nine bytes, or twelve and more.

@@ -96,7 +96,7 @@ fn word_at(text: &[u8], at: usize, count: usize) -> u64
     n
 }
 
-// Eight bytes of a text as one number, and four: one load, as long as none of them is used by itself.
+// Eight bytes of a text as one number, and four, without a loop, which keeps them one load where the numbers are used further.
 pub fn eight_bytes(text: &[u8], at: usize) -> u64
     requires { ⌜ at + 8 ≤ length (now text) ⌝ }
     ensures { λ r. ⌜ r ≡ word (partOf at 8 (now (text .entry))) ⌝ }

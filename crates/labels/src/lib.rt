@@ -1,4 +1,5 @@
-// The two labels of document 01, "Instants and the two labels": RFC 3339 for instants, WebVTT for positions.
+// The two labels of document 01, "Instants and the two labels": RFC 3339 for instants, WebVTT for positions; and WebVTT timestamps and
+// cue lines read back, document 02, request One.
 //
 //     rfc3339::write_instant(instant, out)       bytes written       refusals 4, then 7
 //     rfc3339::read_instant(label)               instant             refusals 8, then 2, 3, 5

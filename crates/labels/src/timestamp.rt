@@ -1,4 +1,5 @@
-// WebVTT timestamps, `HH:MM:SS.mmm` with two digits of hours or more, or `MM:SS.mmm`, read from their end as the bytes of two numbers.
+// WebVTT timestamps, `HH:MM:SS.mmm` with two digits of hours or more, or `MM:SS.mmm`. They are read from their end: the last twelve
+// bytes, or nine, as two numbers, and the digits in front one by one.
 
 use crate::digits;
 ghost use mathlib.Core.Path.{_≡_};
@@ -17,8 +18,8 @@ pub const BEYOND: u64 = 0x4000_0000_0000_0000;
 // The highest bit of each of eight bytes.
 const HIGHEST_BITS: u64 = 0x8080_8080_8080_8080;
 
-// `00:00:00` and `.000`, and what each byte of a timestamp that differs from these by a right value can be raised by without its
-// highest bit: 127 less 9 at a digit, less 5 at the tens of minutes and seconds, and 127 at a mark.
+// `00:00:00` and `.000`; and what the value of each byte can be raised by without setting its highest bit: 127 less 9 at a digit, less
+// 5 at the tens of minutes and seconds, and less 0 at a mark.
 const TO_SECOND: u64 = 0x3030_3a30_303a_3030;
 
 const TO_SECOND_ROOM: u64 = 0x767a_7f76_7a7f_7676;
@@ -36,7 +37,7 @@ pub const MS_PER_SECOND: u32 = 1000;
 
 pub const SECONDS_PER_MINUTE: u32 = 60;
 
-// What one more in front of two digits of hours is worth, and the largest number there.
+// What one hundred hours are worth, and how many of them there are at most.
 const MS_PER_HUNDRED_HOURS: u64 = 360000000;
 
 const LAST_HUNDRED: u64 = 999;
@@ -66,9 +67,6 @@ pub fn read_any(text: &[u8]) -> u64
         return short(text, 0);
     }
     let last = full(text, n - 12);
-    if n == 12 {
-        return last;
-    }
     let hundreds = leading_digits(text, n - 12);
     if last == WRONG {
         return WRONG;
@@ -124,7 +122,7 @@ fn of_words(clock: u64, fraction: u64) -> u64
     digits::pair(v, 0) as u64 * MS_PER_HOUR + (seconds * MS_PER_SECOND) as u64 + thousandths
 }
 
-// The number of the first digits of a text, of which what is above 999 stays so; WRONG if they are no digits.
+// The number of the first digits of a text, as far as it takes to be above 999; WRONG if they are no digits.
 fn leading_digits(text: &[u8], count: usize) -> u64
     requires { ⌜ count ≤ length (now text) ⌝ }
     ensures { λ r. ⌜ r ≡ leading (take count (now (text .entry))) ⌝ }

@@ -43,7 +43,9 @@ pub enum CueAnswer {
 
 const LAST_POSITION: i64 = 359999999999;
 
-// Two timestamps without hours, a blank each side of the arrow, and the arrow.
+// The bytes of a line with the arrow, one blank each side of it, and two timestamps of twelve bytes or of nine.
+const USUAL_LINE: usize = 29;
+
 const SHORTEST_LINE: usize = 23;
 
 // Writes the label of a position. 6 for a position outside the range, then 7 for a buffer shorter than the label.
@@ -140,7 +142,7 @@ pub fn read_cue(line: &[u8]) -> CueAnswer
     ensures { λ r. ⌜ cueOutcome r ≡ cueLineAnswer (now (line .entry)) ⌝ }
 {
     // The two usual lines: timestamps of twelve or of nine bytes, and one space each side of the arrow.
-    if line.len() == 29 {
+    if line.len() == USUAL_LINE {
         if cue::has_gap(line, 12) {
             let start = timestamp::full(line, 0);
             let end = timestamp::full(line, 17);
@@ -149,7 +151,7 @@ pub fn read_cue(line: &[u8]) -> CueAnswer
             }
         }
     }
-    if line.len() == 23 {
+    if line.len() == SHORTEST_LINE {
         if cue::has_gap(line, 9) {
             let start = timestamp::short(line, 0);
             let end = timestamp::short(line, 14);
@@ -169,24 +171,21 @@ fn read_any_cue(line: &[u8]) -> CueAnswer
         return malformed();
     }
     let first_end = cue::first_end(line);
-    let arrow = cue::run_end(line, first_end, true);
-    if arrow == first_end {
+    let arrow_at = cue::run_end(line, first_end, true);
+    if line.len() - arrow_at < 3 {
         return malformed();
     }
-    if line.len() - arrow < 3 {
+    if !cue::has_arrow(line, arrow_at) {
         return malformed();
     }
-    if !cue::has_arrow(line, arrow) {
-        return malformed();
-    }
-    let arrow_end = arrow + 3;
-    let second = cue::run_end(line, arrow_end, true);
-    if second == arrow_end {
+    let arrow_end = arrow_at + 3;
+    let second_at = cue::run_end(line, arrow_end, true);
+    if second_at == arrow_end {
         return malformed();
     }
     cue_of(
         timestamp::read_any(&line[..first_end]),
-        timestamp::read_any(&line[second..]),
+        timestamp::read_any(&line[second_at..]),
     )
 }
 

@@ -6,7 +6,7 @@ use mathlib.Core.List.{List, _++_}
 use lib.IntN.{ℤ, pos, natAbs}
 use lib.Dec.{eqb, ltb}
 use lib.ListN.{length}
-use lib.Signed.{nonNeg}
+use lib.Signed.{nonNeg, ltZ}
 use Rattle.refusal.specs.Outcome.{Outcome, value, refused, refusedAt, andThen, mapValue}
 use Rattle.numbers.specs.Range.{outside}
 use Rattle.numbers.proofs.Between.{natural-within}
@@ -163,17 +163,17 @@ pub read-cue-tells : (line : List ℕ) → Tells returnedDone (cueLineAnswer lin
 unfolding cueLineAnswer cueOf
 read-cue-tells line = go (timingOf line)
   where
-    both : (a b : Outcome ℤ) (earlier : Bool) → Tells returned a → Tells returned b →
-        Tells {A = Cue} returnedDone (andThen a (λ start. andThen b (λ end. cond earlier (value (record { start = start; end = end })) (refused 13))))
-    both (value start) (value end) earlier p q = guarded returnedDone earlier _ _ (told refl) (told refl)
-    both (value start) (refused number) earlier p q = told (q .exactly)
-    both (value start) (refusedAt number place) earlier p q = told (q .exactly)
-    both (refused number) b earlier p q = told (p .exactly)
-    both (refusedAt number place) b earlier p q = told (p .exactly)
+    both : (a b : Outcome ℤ) → Tells returned a → Tells returned b →
+        Tells {A = Cue} returnedDone (andThen a (λ start. andThen b (λ end. cond (ltZ start end) (value (record { start = start; end = end })) (refused 13))))
+    both (value start) (value end) p q = guarded returnedDone (ltZ start end) _ _ (told refl) (told refl)
+    both (value start) (refused number) p q = told (q .exactly)
+    both (value start) (refusedAt number place) p q = told (q .exactly)
+    both (refused number) b p q = told (p .exactly)
+    both (refusedAt number place) b p q = told (p .exactly)
 
     go : (t : Timing line) → Tells returnedDone (timingAnswer t)
     go (between first second parts) =
-        both (positionAnswer first) (positionAnswer second) (ltb (positionOf first) (positionOf second)) (read-position-tells first) (read-position-tells second)
+        both (positionAnswer first) (positionAnswer second) (read-position-tells first) (read-position-tells second)
     go (of-none never) = told refl
 
 -- ---- constants

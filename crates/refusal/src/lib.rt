@@ -1,4 +1,5 @@
-// The numbered refusals of document 01, "The numbered refusals", those that document 02 adds to them, and the answer of a number or a refusal that the crates share.
+// The numbered refusals of document 01, "The numbered refusals", those that document 02 adds, and the answer of a number or a refusal
+// that the crates share.
 //
 //     number(refusal)        its number, 1 to 13
 
@@ -30,7 +31,7 @@ pub enum Refusal {
     NoDifferenceUpToBound,
     // 12: index lists of unequal length
     UnequalLengths,
-    // 13: timestamp or cue line of another shape, or a cue's end not later than its start
+    // 13: timestamp or cue line of a wrong shape, or a cue's end not later than its start
     MalformedTiming,
 }
 

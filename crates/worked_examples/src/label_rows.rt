@@ -1,11 +1,9 @@
 // Document 01's rows of the two labels.
 
-use super::show::natural;
 use super::show::number;
 use super::show::number_answer;
-use super::show::refused;
 use super::show::text;
-use labels::WriteAnswer;
+use super::show::written_answer;
 use labels::rfc3339::LENGTH;
 
 pub fn run() {
@@ -39,13 +37,6 @@ fn written(instant: i64) {
     text(b" ");
     text(&out);
     text(b"\n");
-}
-
-fn written_answer(answer: WriteAnswer) {
-    match answer {
-        WriteAnswer::Written(n) => natural(n as u64),
-        WriteAnswer::Refused(r) => refused(r),
-    }
 }
 
 fn read(label: &[u8]) {

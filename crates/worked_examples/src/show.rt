@@ -2,6 +2,7 @@
 
 use calendar::DateAnswer;
 use calendar::FlagAnswer;
+use labels::WriteAnswer;
 use refusal::NumberAnswer;
 use refusal::Refusal;
 
@@ -59,5 +60,12 @@ pub fn date_answer(answer: DateAnswer) {
             number(date.day);
         }
         DateAnswer::Refused(r) => refused(r),
+    }
+}
+
+pub fn written_answer(answer: WriteAnswer) {
+    match answer {
+        WriteAnswer::Written(n) => natural(n as u64),
+        WriteAnswer::Refused(r) => refused(r),
     }
 }

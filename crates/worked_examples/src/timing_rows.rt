@@ -1,11 +1,10 @@
-// Timestamps and cue lines read back: the label that document 02, request One, gives, both limits, and what readers in wide use get
-// wrong.
+// Timestamps and cue lines read back: the label that document 02, request One, gives, both sides of the limit, and what readers in wide
+// use get wrong.
 
-use super::show::natural;
 use super::show::number;
 use super::show::refused;
 use super::show::text;
-use labels::WriteAnswer;
+use super::show::written_answer;
 use labels::webvtt::CueAnswer;
 use refusal::NumberAnswer;
 
@@ -40,19 +39,18 @@ fn timestamp(label: &[u8]) {
         NumberAnswer::Value(position) => {
             number(position);
             text(b", written ");
-            written(position);
+            written_again(position);
         }
         NumberAnswer::Refused(r) => refused(r),
     }
     text(b"\n");
 }
 
-fn written(position: i64) {
+// The bytes that the writer leaves alone stay question marks.
+fn written_again(position: i64) {
     let mut out = [b'?'; 16];
-    match labels::webvtt::write_position(position, &mut out) {
-        WriteAnswer::Written(n) => natural(n as u64),
-        WriteAnswer::Refused(r) => refused(r),
-    }
+    let answer = labels::webvtt::write_position(position, &mut out);
+    written_answer(answer);
     text(b" ");
     text(&out);
 }

@@ -1,9 +1,5 @@
-use Prim.Native.Nat.{_-_}
-use mathlib.Core.Path.{_≡_, ap, _∙_}
+use mathlib.Core.Path.{_∙_}
 use native.Mathlib.Omega.{arith}
-use lib.ListN.{length}
-use Rattle.labels.specs.Words.{partOf}
-use Rattle.labels.specs.Stamps.{stampOf}
 use Rattle.labels.proofs.StampRead.{few-bytes, whole-part, wrong-twelve, wrong-front, last-below, many-hours, all-hours}
 use borrow.Author.Needs.{needs}
 use Rattle.labels.proofs.timestamp.read_any.Statement.{statement}
@@ -21,37 +17,39 @@ returns-2 c = c .short .ensures ∙ whole-part (c .before .before .before .befor
 full-requires : tie.Need-full-requires
 full-requires c κs = search needs
 
-returns-3 : tie.Need-returns-3
-returns-3 c =
-    let text = c .before .before .before .before .args .text .now in
-    let z : length text - 12 ≡ 0 = omega (arith, c .if3 .taken) in
-    c .before .full .ensures ∙ ap (λ k. stampOf (partOf k 12 text)) z ∙ whole-part text 12 (c .if3 .taken)
-
 leading-digits-requires : tie.Need-leading-digits-requires
 leading-digits-requires c κs = search needs
 
+returns-3 : tie.Need-returns-3
+returns-3 c =
+    wrong-twelve (c .before .before .before .before .before .args .text .now) (c .before .before .before .if1 .left) (c .before .before .full .ensures) (c .before .leading-digits .ensures) (c .if3 .taken)
+
 returns-4 : tie.Need-returns-4
 returns-4 c =
-    wrong-twelve (c .before .before .before .before .before .before .args .text .now) (c .before .before .before .before .if1 .left) (c .before .before .before .full .ensures) (c .before .leading-digits .ensures) (c .if4 .taken)
+    wrong-front (c .before .before .before .before .before .before .args .text .now) (c .before .before .before .before .if1 .left) (c .before .before .before .full .ensures) (c .before .before .leading-digits .ensures) (c .if4 .taken)
 
 returns-5 : tie.Need-returns-5
 returns-5 c =
-    wrong-front (c .before .before .before .before .before .before .before .args .text .now) (c .before .before .before .before .before .if1 .left) (c .before .before .before .before .full .ensures) (c .before .before .leading-digits .ensures) (c .if5 .taken)
-
-returns-6 : tie.Need-returns-6
-returns-6 c =
-    many-hours (c .before .before .before .before .before .before .before .before .args .text .now) (c .before .before .before .before .before .before .if1 .left) (c .before .before .before .before .before .full .ensures) (c .before .before .before .leading-digits .ensures) (c .before .before .if4 .left) (c .before .if5 .left) (c .if6 .taken)
+    many-hours (c .before .before .before .before .before .before .before .args .text .now) (c .before .before .before .before .before .if1 .left) (c .before .before .before .before .full .ensures) (c .before .before .before .leading-digits .ensures)
+    (c .before .before .if3 .left) (c .before .if4 .left) (c .if5 .taken)
 
 mul-result : tie.Need-mul-result
 mul-result c = search needs
 
 add-result : tie.Need-add-result
 add-result c =
-    record { fits = omega (arith, last-below (c .before .before .before .before .before .before .before .before .args .text .now) (c .before .before .before .before .before .before .if1 .left) (c .before .before .before .before .before .full .ensures) (c .before .before .before .leading-digits .ensures) (c .before .before .if4 .left) (c .before .if5 .left)) }
+    record {
+      fits = omega (
+        arith,
+        last-below (c .before .before .before .before .before .before .before .args .text .now) (c .before .before .before .before .before .if1 .left) (c .before .before .before .before .full .ensures) (c .before .before .before .leading-digits .ensures)
+            (c .before .before .if3 .left) (c .before .if4 .left),
+      );
+    }
 
-returns-7 : tie.Need-returns-7
-returns-7 c =
-    all-hours (c .before .before .before .before .before .before .before .before .args .text .now) (c .before .before .before .before .before .before .if1 .left) (c .before .before .before .before .before .full .ensures) (c .before .before .before .leading-digits .ensures) (c .before .before .if4 .left) (c .before .if5 .left) (c .if6 .left)
+returns-6 : tie.Need-returns-6
+returns-6 c =
+    all-hours (c .before .before .before .before .before .before .before .args .text .now) (c .before .before .before .before .before .if1 .left) (c .before .before .before .before .full .ensures) (c .before .before .before .leading-digits .ensures)
+    (c .before .before .if3 .left) (c .before .if4 .left) (c .if5 .left)
 
 pub read-any-spec : {M : Type 1} → statement M
 read-any-spec =
@@ -61,11 +59,10 @@ read-any-spec =
     short-requires
     returns-2
     full-requires
-    returns-3
     leading-digits-requires
+    returns-3
     returns-4
     returns-5
-    returns-6
     mul-result
     add-result
-    returns-7)
+    returns-6)
