@@ -301,8 +301,9 @@ static void check_lengths(void)
                 try_text(right_texts[i], length);
                 try_string(right_texts[i] + length);
             }
-            for (j = 0; j < COUNT(right_texts) && length <= strlen(right_texts[j]); j++)
-                try_changed(right_texts[i], right_length, 0, right_texts[j], length);
+            for (j = 0; j < COUNT(right_texts); j++)
+                if (length <= strlen(right_texts[j]))
+                    try_changed(right_texts[i], right_length, 0, right_texts[j], length);
         }
     }
 }
