@@ -171,7 +171,7 @@ static inline const char *ovenquill_refusal_text(int64_t answer)
     case OVENQUILL_UNEQUAL_LENGTHS:
         return "index lists of unequal length";
     case OVENQUILL_MALFORMED_TIMING:
-        return "timestamp or cue line of another shape, or a cue's end not later than its start";
+        return "timestamp or cue line of a wrong shape, or a cue's end not later than its start";
     default:
         return answer < 0 ? "unknown refusal" : "not refused";
     }
