@@ -1,4 +1,4 @@
-//! Labels: the RFC 3339 form of instants and the WebVTT form of positions.
+//! Labels: the RFC 3339 form of instants and the WebVTT form of positions, timestamps and cue lines.
 
 use crate::raw;
 use crate::refusal::{counted, placed, returned, Refusal};
