@@ -1,7 +1,8 @@
 /*
  * The readers of timestamps and cue lines, on texts that are right, nearly right or of any bytes. Both get each text in a heap
  * block of exactly its size; what they answer and leave is held to plain.h, and what is read is written again. An argument n
- * is the step: only every n-th text is tried. Compiled as C and as C++.
+ * is the step: only every n-th text is tried. Every text whose answer is known, and every label just written, is besides read
+ * where it stands, whatever the step. Compiled as C and as C++.
  */
 #include <string.h>
 
@@ -9,6 +10,7 @@
 #include "ovenquill.h"
 #include "plain.h"
 #include "random.h"
+#include "texts.h"
 
 static long step = 1;
 
@@ -24,6 +26,7 @@ static void try_writing(int64_t position)
 static void try_text(const void *text, size_t length)
 {
     static long texts;
+    const long before = failures;
     const int64_t input = (int64_t)length;
     uint8_t *lent_text, *same_text;
     int64_t position;
@@ -37,6 +40,7 @@ static void try_text(const void *text, size_t length)
     hold("a reader in its text", input, lent_text, same_text, length);
     if (position >= 0)
         try_writing(position);
+    show_failed(before, text, length);
 }
 
 static void try_string(const char *text)
@@ -100,16 +104,21 @@ static void try_timestamp(const char *timestamp)
 
 static void know_position(const char *text, int64_t right)
 {
-    same(text, 0, ovenquill_read_position((const uint8_t *)text, strlen(text)), right);
+    const long before = failures;
+    same("a known timestamp", 0, read_position(text), right);
+    show_failed(before, text, strlen(text));
     try_timestamp(text);
 }
 
-static void know_line(const char *line, int64_t right, int64_t right_start, int64_t right_end)
+static void know_cue(const char *line, int64_t start, int64_t end)
 {
-    ovenquill_cue cue = {-1, -2};
-    same(line, 0, ovenquill_read_cue((const uint8_t *)line, strlen(line), &cue), right);
-    same(line, 1, cue.start, right == 0 ? right_start : -1);
-    same(line, 2, cue.end, right == 0 ? right_end : -2);
+    check_cue(line, start, end);
+    try_string(line);
+}
+
+static void know_refused_cue(const char *line, int64_t refusal)
+{
+    check_refused_cue(line, refusal);
     try_string(line);
 }
 
@@ -199,19 +208,19 @@ static void check_known_lines(void)
         "00:01.000 --> 5124095576031:00:00.000", "00:01.000 --> 4294967296:00:02.000",
     };
     size_t i;
-    know_line("00:01.000 --> 00:02.000", 0, 1000, 2000);
-    know_line("00:01.000\t-->\t00:02.000", 0, 1000, 2000);
-    know_line("00:01.000 \t  -->\t\t 00:02.000", 0, 1000, 2000);
-    know_line("00:00.000 --> 00:00.001", 0, 0, 1);
-    know_line("01:02.003 --> 00:01:02.004", 0, 62003, 62004);
-    know_line("00:01:02.003 --> 01:02.004", 0, 62003, 62004);
-    know_line("000000000000000000000000000000:01:02.003 --> 0000000000000000000000001:00:00.000", 0, 62003, 3600000);
-    know_line("00:00.000 --> 99999:59:59.999", 0, 0, OVENQUILL_LAST_POSITION);
-    know_line("1193:02:47.295 --> 1193:02:47.296", 0, 4294967295, 4294967296);
+    know_cue("00:01.000 --> 00:02.000", 1000, 2000);
+    know_cue("00:01.000\t-->\t00:02.000", 1000, 2000);
+    know_cue("00:01.000 \t  -->\t\t 00:02.000", 1000, 2000);
+    know_cue("00:00.000 --> 00:00.001", 0, 1);
+    know_cue("01:02.003 --> 00:01:02.004", 62003, 62004);
+    know_cue("00:01:02.003 --> 01:02.004", 62003, 62004);
+    know_cue("000000000000000000000000000000:01:02.003 --> 0000000000000000000000001:00:00.000", 62003, 3600000);
+    know_cue("00:00.000 --> 99999:59:59.999", 0, OVENQUILL_LAST_POSITION);
+    know_cue("1193:02:47.295 --> 1193:02:47.296", 4294967295, 4294967296);
     for (i = 0; i < COUNT(malformed); i++)
-        know_line(malformed[i], OVENQUILL_MALFORMED_TIMING, 0, 0);
+        know_refused_cue(malformed[i], OVENQUILL_MALFORMED_TIMING);
     for (i = 0; i < COUNT(above); i++)
-        know_line(above[i], OVENQUILL_POSITION_OUT_OF_RANGE, 0, 0);
+        know_refused_cue(above[i], OVENQUILL_POSITION_OUT_OF_RANGE);
 }
 
 /* Texts that are held to plain.h */
