@@ -50,7 +50,7 @@ static void try_string(const char *text)
 
 /* A text that is put together from its front. Zero bytes follow it. */
 struct built {
-    char bytes[300];
+    char bytes[500];
     size_t length;
 };
 
@@ -63,6 +63,12 @@ static void add_bytes(struct built *text, const char *bytes, size_t length)
 static void add(struct built *text, const char *bytes)
 {
     add_bytes(text, bytes, strlen(bytes));
+}
+
+static void add_times(struct built *text, char byte, size_t times)
+{
+    memset(text->bytes + text->length, byte, times);
+    text->length += times;
 }
 
 static void try_built(const struct built *text)
@@ -299,7 +305,7 @@ static void check_lengths(void)
     char text[SHORT];
     int round;
     for (length = 0; length <= SHORT; length++) {
-        for (round = 0; round < 1000; round++) {
+        for (round = 0; round < 5000; round++) {
             for (i = 0; i < length; i++)
                 text[i] = likely_byte();
             try_text(text, length);
@@ -322,7 +328,7 @@ static void check_much_damage(void)
 {
     long round;
     int damaged;
-    for (round = 0; round < 60000; round++) {
+    for (round = 0; round < 700000; round++) {
         struct built text = {"", 0};
         add(&text, right_texts[(size_t)round % COUNT(right_texts)]);
         for (damaged = (int)random_within(2, 4); damaged > 0; damaged--)
@@ -360,6 +366,21 @@ static void check_hours(void)
     }
 }
 
+/* Hours of up to 200 digits, all but one of them zeros. */
+static void check_one_digit(void)
+{
+    size_t digits, place, i;
+    for (digits = 1; digits <= 200; digits++)
+        for (place = 0; place < digits; place++)
+            for (i = 0; i < 3; i++) {
+                struct built text = {"", 0};
+                add_times(&text, '0', digits);
+                text.bytes[place] = i == 0 ? '1' : i == 1 ? '9' : "2345678"[random_within(0, 6)];
+                add(&text, ":12:34.567");
+                try_timestamp(text.bytes);
+            }
+}
+
 /* Up to five blanks on either side of the arrow, each a space or a tab: the bits of a number below its highest one. */
 static void check_blanks(void)
 {
@@ -379,6 +400,69 @@ static void check_blanks(void)
                 try_line("00:00:01.000", between.bytes, "100:00:02.000");
                 try_line("", between.bytes, "00:02.000");
                 try_line("00:01.000", between.bytes, "");
+            }
+}
+
+/* Adds that many spaces and tabs: in turn, a tab amid spaces, a space amid tabs, or, by any other pattern, at random. */
+static void add_blanks(struct built *text, size_t count, int pattern)
+{
+    const size_t odd = (size_t)random_within(0, (int64_t)count - 1);
+    size_t i;
+    for (i = 0; i < count; i++) {
+        const size_t tab = pattern == 0 ? i % 2 : pattern == 1 ? i == odd : pattern == 2 ? i != odd : (size_t)random_within(0, 1);
+        add_bytes(text, &" \t"[tab], 1);
+    }
+}
+
+/* Up to 100 blanks on either side of the arrow, of every pattern, as they are and with a byte of them damaged. */
+static void check_many_blanks(void)
+{
+    size_t blanks, i;
+    int pattern;
+    for (blanks = 1; blanks <= 100; blanks++)
+        for (pattern = 0; pattern < 40; pattern++) {
+            const size_t few = (size_t)random_within(1, 100);
+            const size_t counts[][2] = {{blanks, 1}, {1, blanks}, {blanks, few}, {few, blanks}};
+            for (i = 0; i < COUNT(counts); i++) {
+                struct built line = {"", 0}, before, behind;
+                size_t arrow;
+                add(&line, pattern % 3 == 0 ? "00:00:01.000" : "00:01.000");
+                add_blanks(&line, counts[i][0], pattern);
+                arrow = line.length;
+                add(&line, "-->");
+                add_blanks(&line, counts[i][1], pattern);
+                add(&line, pattern % 4 == 0 ? "100:00:02.000" : "00:02.000");
+                try_built(&line);
+                before = line, behind = line;
+                before.bytes[arrow - (size_t)random_within(1, (int64_t)counts[i][0])] = likely_byte();
+                behind.bytes[arrow + 2 + (size_t)random_within(1, (int64_t)counts[i][1])] = likely_byte();
+                try_built(&before);
+                try_built(&behind);
+            }
+        }
+}
+
+/* Right lines whose hours or blanks are up to 100, one of them or all, with blanks, line endings and others before and behind. */
+static void check_around_long_lines(void)
+{
+    static const char *const around[] = {"", " ", "\t", "\n", "\r", "\r\n", "\v", " \t", "0", ":", "-", "\xa0"};
+    size_t many, part, i;
+    for (many = 1; many <= 100; many++)
+        for (part = 0; part < 5; part++)
+            for (i = 0; i < COUNT(around); i++) {
+                struct built line = {"", 0}, text = {"", 0};
+                add_times(&line, '0', part == 0 || part == 4 ? many : 1);
+                add(&line, "1:01:02.003");
+                add_blanks(&line, part == 1 || part == 4 ? many : 1, 3);
+                add(&line, "-->");
+                add_blanks(&line, part == 2 || part == 4 ? many : 1, 3);
+                add_times(&line, '0', part == 3 || part == 4 ? many : 1);
+                add(&line, "99999:59:59.999");
+                add(&text, around[i]);
+                add(&text, line.bytes);
+                try_built(&text);
+                add(&line, around[i]);
+                try_built(&line);
             }
 }
 
@@ -494,7 +578,10 @@ int main(int argc, char **argv)
     check_much_damage();
     check_lengths();
     check_hours();
+    check_one_digit();
     check_blanks();
+    check_many_blanks();
+    check_around_long_lines();
     check_other_blanks();
     check_pairs();
     check_pieces();
