@@ -4,6 +4,7 @@
 mod support;
 
 use ovenquill::{position_label, read_cue, read_position, write_position, Cue, POSITION_LABEL_BYTES};
+use std::time::{Duration, Instant};
 use support::answer::answer;
 use support::answer::Answer::{Refused, Value};
 use support::plain::{self, LAST_POSITION, POSITION_HOUR, POSITION_MINUTE, POSITION_SECOND};
@@ -608,7 +609,7 @@ fn texts_of_every_length() {
 
 #[test]
 fn long_texts() {
-    // A reader that takes time in the square of the length would not end here.
+    let began = Instant::now();
     for length in support::LONG.into_iter().chain([1_000_000]) {
         let [zeros, nines, spaces, tabs, colons, dashes] =
             ["0", "9", " ", "\t", ":", "-"].map(|byte| byte.repeat(length));
@@ -638,4 +639,6 @@ fn long_texts() {
             try_text(line);
         }
     }
+    // Readers that take time linear in the length are done in seconds; in its square they would take many minutes.
+    assert!(began.elapsed() < Duration::from_secs(60), "long texts take {:?}", began.elapsed());
 }
