@@ -219,6 +219,19 @@ fn instant_lines() {
 
 // Labels
 
+/// The same texts, of which one in eight has a byte changed to `?` or to `9`. That leaves some of them right.
+fn damaged<T: Clone + AsMut<[u8]>>(random: &mut Random, texts: &[T]) -> Vec<T> {
+    let mut damaged = texts.to_vec();
+    for text in &mut damaged {
+        if random.within(0, 7) == 0 {
+            let bytes = text.as_mut();
+            let place = random.within(0, bytes.len() as i64 - 1) as usize;
+            bytes[place] = random.choose(b"?9");
+        }
+    }
+    damaged
+}
+
 fn label_lines() {
     let mut random = Random::new(102);
     let list = numbers(&mut random, INSTANTS);
@@ -230,14 +243,7 @@ fn label_lines() {
             label
         })
         .collect();
-    // One in eight has a byte that is wrong, or a field that is.
-    let mut damaged = right.clone();
-    for label in &mut damaged {
-        if random.within(0, 7) == 0 {
-            let place = random.within(0, label.len() as i64 - 1) as usize;
-            label[place] = random.choose(b"?9");
-        }
-    }
+    let damaged = damaged(&mut random, &right);
     let short = numbers(&mut random, *POSITIONS.start()..=100 * labels::POSITION_HOUR - 1);
     let long: Vec<i64> = (0..INPUTS).map(|_| random.of_any_size(*POSITIONS.start(), *POSITIONS.end())).collect();
 
@@ -304,19 +310,6 @@ fn some_line(random: &mut Random, digits: [HourDigits; 2], most_blanks: usize) -
 /// As many texts as a line has inputs.
 fn texts<const MOST: usize>(mut text: impl FnMut() -> String) -> Vec<Text<MOST>> {
     (0..INPUTS).map(|_| Text::of(text().as_bytes())).collect()
-}
-
-/// The same texts, of which one in eight has a byte that is wrong, or a field that is.
-fn damaged<const MOST: usize>(random: &mut Random, texts: &[Text<MOST>]) -> Vec<Text<MOST>> {
-    let mut damaged = texts.to_vec();
-    for text in &mut damaged {
-        if random.within(0, 7) == 0 {
-            let bytes = text.bytes_mut();
-            let place = random.within(0, bytes.len() as i64 - 1) as usize;
-            bytes[place] = random.choose(b"?9");
-        }
-    }
-    damaged
 }
 
 /// Either of two, as often.
