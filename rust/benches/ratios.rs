@@ -319,6 +319,7 @@ fn either<const MOST: usize>(random: &mut Random, a: &[Text<MOST>], b: &[Text<MO
 
 fn timing_lines() {
     let random = &mut Random::new(107);
+    let joined = "Rust, tests joined";
     let without_hours = texts(|| timestamp(some_position(random, 0), 0));
     let with_hours = texts(|| timestamp(some_position(random, 2), 2));
     let both = either(random, &with_hours, &without_hours);
@@ -338,7 +339,7 @@ fn timing_lines() {
             what,
             &Inputs::of(inputs),
             raw::ovenquill_read_position,
-            &[(BY_HAND, labels::read_position)],
+            &[(BY_HAND, labels::read_position::<false>), (joined, labels::read_position::<true>)],
         );
     }
 
@@ -357,7 +358,12 @@ fn timing_lines() {
         ("read a cue line, 1 in 8 damaged", &damaged_lines),
         ("read a cue line, any hours and blanks", &of_any_form),
     ] {
-        line::<CueReader>(what, &Inputs::of(inputs), raw::ovenquill_read_cue, &[(BY_HAND, labels::read_cue)]);
+        line::<CueReader>(
+            what,
+            &Inputs::of(inputs),
+            raw::ovenquill_read_cue,
+            &[(BY_HAND, labels::read_cue::<false>), (joined, labels::read_cue::<true>)],
+        );
     }
 }
 

@@ -177,9 +177,43 @@ fn below_60(tens: u8, ones: u8) -> Result<u64, i64> {
     }
 }
 
-/// The position of a timestamp, or a refusal. Hours that are too many are counted as one too many.
+/// The hours that stand with their colon before `MM:SS.mmm`, one too many where they are too many; 0 where nothing does.
 #[inline(always)]
-fn timestamp(text: &[u8]) -> Result<i64, i64> {
+fn hours(front: &[u8]) -> Result<u64, i64> {
+    let mut hours = 0;
+    if let Some((&colon, digits)) = front.split_last() {
+        if colon != b':' || digits.len() < 2 {
+            return Err(13);
+        }
+        for &byte in digits {
+            hours = (hours * 10 + digit(byte)?).min(LAST_HOURS + 1);
+        }
+    }
+    Ok(hours)
+}
+
+/// The position of a number of hours and of a time below an hour, or a refusal.
+#[inline(always)]
+fn position(hours: u64, minute: u64, second: u64, millisecond: u64) -> Result<i64, i64> {
+    if hours > LAST_HOURS {
+        return Err(6);
+    }
+    Ok((((hours * 60 + minute) * 60 + second) * POSITION_SECOND as u64 + millisecond) as i64)
+}
+
+/// Whether a byte of a text is below the least or above the largest of its place. Each is tested without a branch.
+#[inline(always)]
+fn outside<const BYTES: usize>(text: &[u8; BYTES], least: &[u8; BYTES], largest: &[u8; BYTES]) -> bool {
+    let mut wrong = 0;
+    for place in 0..BYTES {
+        wrong |= u8::from(text[place].wrapping_sub(least[place]) > largest[place] - least[place]);
+    }
+    wrong != 0
+}
+
+/// The position of a timestamp, or a refusal: byte by byte, the first wrong one ends it.
+#[inline(always)]
+fn by_bytes(text: &[u8]) -> Result<i64, i64> {
     if text.len() < CLOCK_BYTES {
         return Err(13);
     }
@@ -193,24 +227,38 @@ fn timestamp(text: &[u8]) -> Result<i64, i64> {
         return Err(13);
     }
     let millisecond = digit(clock[6])? * 100 + digit(clock[7])? * 10 + digit(clock[8])?;
-    let mut hours = 0;
-    if let Some((&colon, digits)) = front.split_last() {
-        if colon != b':' || digits.len() < 2 {
-            return Err(13);
-        }
-        for &byte in digits {
-            hours = (hours * 10 + digit(byte)?).min(LAST_HOURS + 1);
-        }
+    position(hours(front)?, minute, second, millisecond)
+}
+
+/// The same, with the tests of the bytes joined: of `MM:SS.mmm`, and of hours of two digits.
+#[inline(always)]
+fn by_joined_tests(text: &[u8]) -> Result<i64, i64> {
+    let (front, clock) = text.split_last_chunk::<CLOCK_BYTES>().ok_or(13)?;
+    if outside(clock, b"00:00.000", b"59:59.999") {
+        return Err(13);
     }
-    if hours > LAST_HOURS {
-        return Err(6);
+    let pair = |tens: u8, ones: u8| u64::from(tens - b'0') * 10 + u64::from(ones - b'0');
+    let hours = match <&[u8; 3]>::try_from(front) {
+        Ok(front) if outside(front, b"00:", b"99:") => return Err(13),
+        Ok(&[tens, ones, _]) => pair(tens, ones),
+        Err(_) => hours(front)?,
+    };
+    let millisecond = u64::from(clock[6] - b'0') * 100 + pair(clock[7], clock[8]);
+    position(hours, pair(clock[0], clock[1]), pair(clock[3], clock[4]), millisecond)
+}
+
+#[inline(always)]
+fn timestamp<const JOINED: bool>(text: &[u8]) -> Result<i64, i64> {
+    if JOINED {
+        by_joined_tests(text)
+    } else {
+        by_bytes(text)
     }
-    Ok((((hours * 60 + minute) * 60 + second) * POSITION_SECOND as u64 + millisecond) as i64)
 }
 
 #[inline(never)]
-pub unsafe extern "C" fn read_position(text: *const u8, length: usize) -> i64 {
-    returned(timestamp(slice::from_raw_parts(text, length)))
+pub unsafe extern "C" fn read_position<const JOINED: bool>(text: *const u8, length: usize) -> i64 {
+    returned(timestamp::<JOINED>(slice::from_raw_parts(text, length)))
 }
 
 fn blank(byte: &u8) -> bool {
@@ -224,13 +272,27 @@ fn after_blanks(text: &[u8]) -> Option<&[u8]> {
     (blanks != 0).then(|| &text[blanks..])
 }
 
+/// Where the first timestamp of a line ends: at a blank. With joined tests, the two usual places are tried first; no line in
+/// which a blank stands before them is right.
+#[inline(always)]
+fn first_end<const JOINED: bool>(line: &[u8]) -> Option<usize> {
+    if JOINED {
+        for usual in [CLOCK_BYTES, "HH:".len() + CLOCK_BYTES] {
+            if line.get(usual).is_some_and(blank) {
+                return Some(usual);
+            }
+        }
+    }
+    line.iter().position(blank)
+}
+
 /// The cue of a line, or a refusal.
 #[inline(always)]
-fn cue(line: &[u8]) -> Result<Cue, i64> {
-    let (start, rest) = line.split_at(line.iter().position(blank).ok_or(13)?);
+fn cue<const JOINED: bool>(line: &[u8]) -> Result<Cue, i64> {
+    let (start, rest) = line.split_at(first_end::<JOINED>(line).ok_or(13)?);
     let rest = after_blanks(rest).and_then(|rest| rest.strip_prefix(b"-->")).ok_or(13)?;
     let end = after_blanks(rest).ok_or(13)?;
-    match (timestamp(start), timestamp(end)) {
+    match (timestamp::<JOINED>(start), timestamp::<JOINED>(end)) {
         (Ok(start), Ok(end)) if end > start => Ok(Cue { start, end }),
         (Ok(_), Ok(_)) | (Err(13), _) | (_, Err(13)) => Err(13),
         _ => Err(6),
@@ -238,6 +300,6 @@ fn cue(line: &[u8]) -> Result<Cue, i64> {
 }
 
 #[inline(never)]
-pub unsafe extern "C" fn read_cue(line: *const u8, length: usize, place: *mut Cue) -> i64 {
-    to_place(place, cue(slice::from_raw_parts(line, length)))
+pub unsafe extern "C" fn read_cue<const JOINED: bool>(line: *const u8, length: usize, place: *mut Cue) -> i64 {
+    to_place(place, cue::<JOINED>(slice::from_raw_parts(line, length)))
 }
