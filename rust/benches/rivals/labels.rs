@@ -201,16 +201,6 @@ fn position(hours: u64, minute: u64, second: u64, millisecond: u64) -> Result<i6
     Ok((((hours * 60 + minute) * 60 + second) * POSITION_SECOND as u64 + millisecond) as i64)
 }
 
-/// Whether a byte of a text is below the least or above the largest of its place. Each is tested without a branch.
-#[inline(always)]
-fn outside<const BYTES: usize>(text: &[u8; BYTES], least: &[u8; BYTES], largest: &[u8; BYTES]) -> bool {
-    let mut wrong = 0;
-    for place in 0..BYTES {
-        wrong |= u8::from(text[place].wrapping_sub(least[place]) > largest[place] - least[place]);
-    }
-    wrong != 0
-}
-
 /// The position of a timestamp, or a refusal: byte by byte, the first wrong one ends it.
 #[inline(always)]
 fn by_bytes(text: &[u8]) -> Result<i64, i64> {
@@ -230,21 +220,25 @@ fn by_bytes(text: &[u8]) -> Result<i64, i64> {
     position(hours(front)?, minute, second, millisecond)
 }
 
-/// The same, with the tests of the bytes joined: of `MM:SS.mmm`, and of hours of two digits.
+/// The same, with the tests of the bytes joined: those of `MM:SS.mmm`, and those of hours of two digits.
 #[inline(always)]
 fn by_joined_tests(text: &[u8]) -> Result<i64, i64> {
-    let (front, clock) = text.split_last_chunk::<CLOCK_BYTES>().ok_or(13)?;
-    if outside(clock, b"00:00.000", b"59:59.999") {
+    // 0 for a digit up to the last one; a mark is tested by `^`. So no test is a branch of its own.
+    let no_digit = |byte: u8, last: u8| u8::from(byte.wrapping_sub(b'0') > last);
+    let number = |byte: u8| u64::from(byte - b'0');
+    let (front, &[m, n, colon, s, t, point, a, b, c]) = text.split_last_chunk::<CLOCK_BYTES>().ok_or(13)?;
+    let wrong_minute = no_digit(m, 5) | no_digit(n, 9) | (colon ^ b':');
+    let wrong_second = no_digit(s, 5) | no_digit(t, 9) | (point ^ b'.');
+    if wrong_minute | wrong_second | no_digit(a, 9) | no_digit(b, 9) | no_digit(c, 9) != 0 {
         return Err(13);
     }
-    let pair = |tens: u8, ones: u8| u64::from(tens - b'0') * 10 + u64::from(ones - b'0');
-    let hours = match <&[u8; 3]>::try_from(front) {
-        Ok(front) if outside(front, b"00:", b"99:") => return Err(13),
-        Ok(&[tens, ones, _]) => pair(tens, ones),
-        Err(_) => hours(front)?,
+    let hours = match *front {
+        [h, o, colon] if no_digit(h, 9) | no_digit(o, 9) | (colon ^ b':') != 0 => return Err(13),
+        [h, o, _] => number(h) * 10 + number(o),
+        _ => hours(front)?,
     };
-    let millisecond = u64::from(clock[6] - b'0') * 100 + pair(clock[7], clock[8]);
-    position(hours, pair(clock[0], clock[1]), pair(clock[3], clock[4]), millisecond)
+    let millisecond = number(a) * 100 + number(b) * 10 + number(c);
+    position(hours, number(m) * 10 + number(n), number(s) * 10 + number(t), millisecond)
 }
 
 #[inline(always)]
