@@ -1,6 +1,6 @@
 /*
- * Ovenquill: the proleptic Gregorian calendar, labels of instants and of positions, and a checker of multiply-and-shift
- * constants, proved right.
+ * Ovenquill: the proleptic Gregorian calendar, labels of instants and of positions (WebVTT timestamps), cue lines, and a
+ * checker of multiply-and-shift constants, proved right.
  *
  * For C99, C++11 and later ones. Link with libovenquill.a; after `make install`, `pkg-config --cflags --libs ovenquill` says
  * how.
@@ -36,7 +36,7 @@ extern "C" {
 
 /* The version of this header, in numbers and as a string. */
 #define OVENQUILL_VERSION_MAJOR 0
-#define OVENQUILL_VERSION_MINOR 1
+#define OVENQUILL_VERSION_MINOR 2
 #define OVENQUILL_VERSION_PATCH 0
 #define OVENQUILL_VERSION OVENQUILL_DOTTED_(OVENQUILL_VERSION_MAJOR, OVENQUILL_VERSION_MINOR, OVENQUILL_VERSION_PATCH)
 #define OVENQUILL_DOTTED_(major, minor, patch) OVENQUILL_STRING_(major.minor.patch)
@@ -171,7 +171,7 @@ static inline const char *ovenquill_refusal_text(int64_t answer)
     case OVENQUILL_UNEQUAL_LENGTHS:
         return "index lists of unequal length";
     case OVENQUILL_MALFORMED_TIMING:
-        return "timestamp or cue line of another shape, or a cue's end not later than its start";
+        return "timestamp or cue line of a wrong shape, or a cue's end not later than its start";
     default:
         return answer < 0 ? "unknown refusal" : "not refused";
     }
@@ -357,7 +357,8 @@ int64_t ovenquill_write_position(int64_t position, uint8_t *out, size_t length);
 
 /*
  * Reads a timestamp: hours of two or more decimal digits and :MM:SS.mmm, or MM:SS.mmm alone; minutes and seconds are 00 to 59.
- * Answers its position. The `length` bytes are the timestamp and nothing else: no blank, no line ending, no zero byte.
+ * Answers its position. The `length` bytes are the timestamp and nothing else: no blank, no line ending, no zero byte. The time
+ * is linear in `length`.
  *
  * What ovenquill_write_position writes for a position is read as that position. A label that is read and written again has its
  * hours, and no leading zero too many: 01:02.003 becomes 00:01:02.003.
@@ -371,12 +372,13 @@ int64_t ovenquill_read_position(const uint8_t *text, size_t length);
 /*
  * Reads a cue timing line without settings: a timestamp, as ovenquill_read_position reads it, one or more spaces or tabs, -->,
  * one or more spaces or tabs, and a timestamp. Writes their positions to `cue` and answers 0. Nothing may stand before the
- * first timestamp or behind the second: `length` counts no line ending.
+ * first timestamp or behind the second: no blank, no line ending, no zero byte. The time is linear in `length`.
  *
  * Refusals, after which `cue` is unchanged:
  *   OVENQUILL_MALFORMED_TIMING        any other bytes
  *   OVENQUILL_POSITION_OUT_OF_RANGE   start or end above OVENQUILL_LAST_POSITION
  *   OVENQUILL_MALFORMED_TIMING        end not later than start
+ * The two causes of OVENQUILL_MALFORMED_TIMING are not told apart.
  */
 int64_t ovenquill_read_cue(const uint8_t *line, size_t length, ovenquill_cue *cue);
 

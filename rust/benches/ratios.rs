@@ -219,6 +219,19 @@ fn instant_lines() {
 
 // Labels
 
+/// The same texts, of which one in eight has a byte changed to `?` or to `9`. That leaves some of them right.
+fn damaged<T: Clone + AsMut<[u8]>>(random: &mut Random, texts: &[T]) -> Vec<T> {
+    let mut damaged = texts.to_vec();
+    for text in &mut damaged {
+        if random.within(0, 7) == 0 {
+            let bytes = text.as_mut();
+            let place = random.within(0, bytes.len() as i64 - 1) as usize;
+            bytes[place] = random.choose(b"?9");
+        }
+    }
+    damaged
+}
+
 fn label_lines() {
     let mut random = Random::new(102);
     let list = numbers(&mut random, INSTANTS);
@@ -230,14 +243,7 @@ fn label_lines() {
             label
         })
         .collect();
-    // One in eight has a byte that is wrong, or a field that is.
-    let mut damaged = right.clone();
-    for label in &mut damaged {
-        if random.within(0, 7) == 0 {
-            let place = random.within(0, label.len() as i64 - 1) as usize;
-            label[place] = random.choose(b"?9");
-        }
-    }
+    let damaged = damaged(&mut random, &right);
     let short = numbers(&mut random, *POSITIONS.start()..=100 * labels::POSITION_HOUR - 1);
     let long: Vec<i64> = (0..INPUTS).map(|_| random.of_any_size(*POSITIONS.start(), *POSITIONS.end())).collect();
 
@@ -306,19 +312,6 @@ fn texts<const MOST: usize>(mut text: impl FnMut() -> String) -> Vec<Text<MOST>>
     (0..INPUTS).map(|_| Text::of(text().as_bytes())).collect()
 }
 
-/// The same texts, of which one in eight has a byte that is wrong, or a field that is.
-fn damaged<const MOST: usize>(random: &mut Random, texts: &[Text<MOST>]) -> Vec<Text<MOST>> {
-    let mut damaged = texts.to_vec();
-    for text in &mut damaged {
-        if random.within(0, 7) == 0 {
-            let bytes = text.bytes_mut();
-            let place = random.within(0, bytes.len() as i64 - 1) as usize;
-            bytes[place] = random.choose(b"?9");
-        }
-    }
-    damaged
-}
-
 /// Either of two, as often.
 fn either<const MOST: usize>(random: &mut Random, a: &[Text<MOST>], b: &[Text<MOST>]) -> Vec<Text<MOST>> {
     a.iter().zip(b).map(|(&a, &b)| random.choose(&[a, b])).collect()
@@ -326,6 +319,7 @@ fn either<const MOST: usize>(random: &mut Random, a: &[Text<MOST>], b: &[Text<MO
 
 fn timing_lines() {
     let random = &mut Random::new(107);
+    let joined = "Rust, tests joined";
     let without_hours = texts(|| timestamp(some_position(random, 0), 0));
     let with_hours = texts(|| timestamp(some_position(random, 2), 2));
     let both = either(random, &with_hours, &without_hours);
@@ -345,7 +339,7 @@ fn timing_lines() {
             what,
             &Inputs::of(inputs),
             raw::ovenquill_read_position,
-            &[(BY_HAND, labels::read_position)],
+            &[(BY_HAND, labels::read_position::<false>), (joined, labels::read_position::<true>)],
         );
     }
 
@@ -364,7 +358,12 @@ fn timing_lines() {
         ("read a cue line, 1 in 8 damaged", &damaged_lines),
         ("read a cue line, any hours and blanks", &of_any_form),
     ] {
-        line::<CueReader>(what, &Inputs::of(inputs), raw::ovenquill_read_cue, &[(BY_HAND, labels::read_cue)]);
+        line::<CueReader>(
+            what,
+            &Inputs::of(inputs),
+            raw::ovenquill_read_cue,
+            &[(BY_HAND, labels::read_cue::<false>), (joined, labels::read_cue::<true>)],
+        );
     }
 }
 

@@ -1,4 +1,4 @@
-//! Labels: the RFC 3339 form of instants and the WebVTT form of positions.
+//! Labels: the RFC 3339 form of instants and the WebVTT form of positions, timestamps and cue lines.
 
 use crate::raw;
 use crate::refusal::{counted, placed, returned, Refusal};
@@ -91,11 +91,11 @@ pub fn write_position(position: i64, out: &mut [u8]) -> Result<usize, Refusal> {
 
 /// The position of a timestamp: `MM:SS.mmm`, or hours of two or more digits and `:MM:SS.mmm`.
 ///
-/// What [`write_position`] writes for a position is read as that position. Leading zeros of the hours are read too, any
-/// number of them; they are never written.
+/// What [`write_position`] writes for a position is read as that position. Leading zeros of the hours beyond those that two
+/// digits need are read too, any number of them; they are never written.
 ///
 /// Refused are bytes that are no timestamp, among them blanks around one and minutes or seconds of 60 to 99
-/// ([`Refusal::MalformedTiming`]), and then a position above the last of [`POSITIONS`], by hours of any number of digits
+/// ([`Refusal::MalformedTiming`]), and then a position above the last of [`POSITIONS`], however many digits its hours have
 /// ([`Refusal::PositionOutOfRange`]).
 ///
 /// ```
@@ -140,7 +140,8 @@ pub struct Cue {
 const NO_CUE: Cue = Cue { start: 0, end: 0 };
 
 /// The cue of a timing line without settings: a timestamp, as [`read_position`] reads it, one or more spaces or tabs,
-/// `-->`, one or more spaces or tabs, and a timestamp. The line comes without its line ending.
+/// `-->`, one or more spaces or tabs, and a timestamp. Nothing may stand before the first timestamp or behind the second: no
+/// blank and no line ending.
 ///
 /// Refused are, in this order, bytes that are no such line ([`Refusal::MalformedTiming`]), a start or an end above the last
 /// of [`POSITIONS`] ([`Refusal::PositionOutOfRange`]) and an end that is not later than the start

@@ -1,5 +1,5 @@
-//! The proleptic Gregorian calendar, instants and their RFC 3339 labels, WebVTT position labels, and a checker of
-//! multiply-and-shift constants, proved right.
+//! The proleptic Gregorian calendar, instants and their RFC 3339 labels, position labels (WebVTT timestamps) and cue lines,
+//! and a checker of multiply-and-shift constants, proved right.
 //!
 //! This package is a safe wrapper over the archive `libovenquill.a`, whose functions are proved to meet their contracts.
 //! What the wrapper itself does is small: it lends the calls places for their answers and gives the numbers of refusals
@@ -10,7 +10,7 @@
 //! | days and dates | [`Date`], [`Weekday`] | [`days_from_civil`], [`civil_from_days`], [`weekday`], [`is_leap`], [`last_day_of_month`], [`day_of_year`], [`add_days`] |
 //! | instants | [`Fields`], [`IndexError`] | [`day_of_instant`], [`split_instant`], [`join_instant`], [`index_days`] |
 //! | labels of instants | [`InstantLabel`] | [`instant_label`], [`write_instant`], [`read_instant`] |
-//! | labels of positions | [`PositionLabel`], [`Cue`] | [`position_label`], [`write_position`], [`read_position`], [`read_cue`] |
+//! | labels of positions, cue lines | [`PositionLabel`], [`Cue`] | [`position_label`], [`write_position`], [`read_position`], [`read_cue`] |
 //! | constants that stand for a division | [`Constants`], [`ClaimError`] | [`first_difference`], [`check_bound`] |
 //!
 //! Every call takes any numbers and any slices. What it does not take it answers with a [`Refusal`], which has a number and

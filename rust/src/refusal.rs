@@ -119,9 +119,9 @@ refusals! {
     NoDifferenceUpToBound = 11, ("claim: no difference at or below the bound");
     /// An index's two lists are of unequal length.
     UnequalLengths = 12, ("index lists of unequal length");
-    /// A timestamp or a cue line of another shape than [`read_position`](crate::read_position) and
-    /// [`read_cue`](crate::read_cue) read, or a cue whose end is not later than its start.
-    MalformedTiming = 13, ("timestamp or cue line of another shape, or a cue's end not later than its start");
+    /// A timestamp or a cue line of a wrong shape, one that [`read_position`](crate::read_position) or
+    /// [`read_cue`](crate::read_cue) does not read, or a cue whose end is not later than its start.
+    MalformedTiming = 13, ("timestamp or cue line of a wrong shape, or a cue's end not later than its start");
 }
 
 impl Error for Refusal {}

@@ -4,6 +4,7 @@
 mod support;
 
 use ovenquill::{position_label, read_cue, read_position, write_position, Cue, POSITION_LABEL_BYTES};
+use std::time::{Duration, Instant};
 use support::answer::answer;
 use support::answer::Answer::{Refused, Value};
 use support::plain::{self, LAST_POSITION, POSITION_HOUR, POSITION_MINUTE, POSITION_SECOND};
@@ -368,6 +369,19 @@ fn hours_of_any_number_of_digits() {
     }
 }
 
+#[test]
+fn hours_with_one_digit_that_is_not_zero() {
+    for digits in 1..=200 {
+        for place in 0..digits {
+            for digit in b'1'..=b'9' {
+                let mut text = [&vec![b'0'; digits], &b":12:34.567"[..]].concat();
+                text[place] = digit;
+                try_timestamp(&text);
+            }
+        }
+    }
+}
+
 /// Every text of so many of these bytes.
 fn every_text(bytes: &[u8], length: usize) -> impl Iterator<Item = Vec<u8>> + '_ {
     let count = bytes.len();
@@ -477,6 +491,73 @@ fn blanks_of_every_number_and_kind() {
     }
 }
 
+/// So many spaces and tabs: in turn, a tab amid spaces, a space amid tabs, or, by any other pattern, at random.
+fn blanks(random: &mut Random, count: usize, pattern: u32) -> Vec<u8> {
+    let odd = random.within(0, count as i64 - 1) as usize;
+    (0..count)
+        .map(|place| match pattern {
+            0 => b" \t"[place % 2],
+            1 => b" \t"[usize::from(place == odd)],
+            2 => b"\t "[usize::from(place == odd)],
+            _ => random.choose(b" \t"),
+        })
+        .collect()
+}
+
+#[test]
+fn long_runs_of_blanks() {
+    let mut random = Random::new(37);
+    for count in 1..=100 {
+        for pattern in 0..40 {
+            let other = random.within(1, 100) as usize;
+            for (before, behind) in [(count, 1), (1, count), (count, other), (other, count)] {
+                let front = [&b"00:01.000"[..], &blanks(&mut random, before, pattern)].concat();
+                let back = [&blanks(&mut random, behind, pattern), &b"00:00:02.000"[..]].concat();
+                let line = [&front[..], b"-->", &back].concat();
+                assert_eq!(read_cue(&line), Ok(Cue { start: 1000, end: 2000 }), "{:?}", String::from_utf8_lossy(&line));
+                try_text(&line);
+                // One of the blanks on either side damaged.
+                let (first, second) = (front.len() - before, front.len() + "-->".len());
+                for (run, count) in [(first, before), (second, behind)] {
+                    let mut damaged = line.clone();
+                    damaged[run + random.within(0, count as i64 - 1) as usize] = random.choose(LIKELY);
+                    try_text(&damaged);
+                }
+            }
+        }
+    }
+}
+
+#[test]
+fn blanks_and_line_endings_around_long_lines() {
+    let mut random = Random::new(38);
+    for many in 1..=100 {
+        // The hours of the start, the blanks on either side, the hours of the end, or all of them are long.
+        for long in 0..5 {
+            let [start, before, behind, end] =
+                [0, 1, 2, 3].map(|part| if part == long || long == 4 { many } else { 1 });
+            let line = [
+                &vec![b'0'; start],
+                &b"1:01:02.003"[..],
+                &blanks(&mut random, before, 3),
+                b"-->",
+                &blanks(&mut random, behind, 3),
+                &vec![b'0'; end],
+                b"99999:59:59.999",
+            ]
+            .concat();
+            assert_eq!(read_cue(&line), Ok(Cue { start: 3662003, end: LAST_POSITION }));
+            try_text(&line);
+            for around in [" ", "\t", "\n", "\r", "\r\n", " \t", "\0", "\u{b}", "\u{a0}", ":", "-"].map(str::as_bytes) {
+                for text in [[around, &line].concat(), [&line, around].concat()] {
+                    assert_eq!(answer(read_cue(&text)), Refused(13), "{:?}", String::from_utf8_lossy(&text));
+                    try_text(&text);
+                }
+            }
+        }
+    }
+}
+
 // Damage
 
 #[test]
@@ -528,7 +609,7 @@ fn texts_of_every_length() {
 
 #[test]
 fn long_texts() {
-    // A reader that takes time in the square of the length would not end here.
+    let began = Instant::now();
     for length in support::LONG.into_iter().chain([1_000_000]) {
         let [zeros, nines, spaces, tabs, colons, dashes] =
             ["0", "9", " ", "\t", ":", "-"].map(|byte| byte.repeat(length));
@@ -558,4 +639,6 @@ fn long_texts() {
             try_text(line);
         }
     }
+    // Readers that take time linear in the length are done in seconds; in its square they would take many minutes.
+    assert!(began.elapsed() < Duration::from_secs(60), "long texts take {:?}", began.elapsed());
 }

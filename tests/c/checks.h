@@ -7,13 +7,16 @@
 
 #define COUNT(array) (sizeof(array) / sizeof(array)[0])
 
+/* So many failures are shown, the first ones. */
+#define MOST_SHOWN 20
+
 static long checks, failures;
 
 /* Holds a number, what a call answered or wrote, to the right one. */
 static inline void same(const char *what, int64_t input, int64_t got, int64_t right)
 {
     checks++;
-    if (got != right && failures++ < 20)
+    if (got != right && failures++ < MOST_SHOWN)
         fprintf(stderr, "FAILED: %s at %" PRId64 " is %" PRId64 ", not %" PRId64 "\n", what, input, got, right);
 }
 

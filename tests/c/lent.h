@@ -33,7 +33,7 @@ static inline void *lend_copy(const void *from, size_t bytes)
 static inline void hold(const char *what, int64_t input, void *got, void *right, size_t bytes)
 {
     checks++;
-    if (bytes != 0 && memcmp(got, right, bytes) != 0 && failures++ < 20)
+    if (bytes != 0 && memcmp(got, right, bytes) != 0 && failures++ < MOST_SHOWN)
         fprintf(stderr, "FAILED: what %s leaves at %" PRId64 "\n", what, input);
     free(got);
     free(right);

@@ -6,6 +6,7 @@
 
 #include "checks.h"
 #include "ovenquill.h"
+#include "texts.h"
 
 static void check_date(int64_t count, int64_t year, int64_t month, int64_t day)
 {
@@ -111,11 +112,6 @@ static void check_positions(void)
          OVENQUILL_POSITION_OUT_OF_RANGE);
 }
 
-static int64_t read_position(const char *text)
-{
-    return ovenquill_read_position((const uint8_t *)text, strlen(text));
-}
-
 /* "A read label written again gives the full form with hours." */
 static void check_full_form(const char *text, const char *full_form)
 {
@@ -146,24 +142,11 @@ static void check_timestamps(void)
     same("13 before 6", 0, read_position("100000:60:00.000"), OVENQUILL_MALFORMED_TIMING);
 }
 
-static void check_cue(const char *line, int64_t answer, int64_t start, int64_t end)
-{
-    ovenquill_cue cue = {-1, -1};
-    same(line, 0, ovenquill_read_cue((const uint8_t *)line, strlen(line), &cue), answer);
-    same(line, 1, cue.start, start);
-    same(line, 2, cue.end, end);
-}
-
-static void check_refused_cue(const char *line, int64_t refusal)
-{
-    check_cue(line, refusal, -1, -1);
-}
-
 /* "A timestamp, one or more spaces or tabs, `-->`, the same again, a timestamp, with the end later than the start." */
 static void check_cues(void)
 {
-    check_cue("01:02.003 --> 01:02.004", 0, 62003, 62004);
-    check_cue("01:02.003 \t-->\t\t 99999:59:59.999", 0, 62003, 359999999999);
+    check_cue("01:02.003 --> 01:02.004", 62003, 62004);
+    check_cue("01:02.003 \t-->\t\t 99999:59:59.999", 62003, 359999999999);
     check_refused_cue("01:02.003--> 01:02.004", OVENQUILL_MALFORMED_TIMING);
     check_refused_cue("01:02.003 -->01:02.004", OVENQUILL_MALFORMED_TIMING);
     check_refused_cue("01:02.003 -> 01:02.004", OVENQUILL_MALFORMED_TIMING);

@@ -1,7 +1,8 @@
 /*
  * The readers of timestamps and cue lines, on texts that are right, nearly right or of any bytes. Both get each text in a heap
  * block of exactly its size; what they answer and leave is held to plain.h, and what is read is written again. An argument n
- * is the step: only every n-th text is tried. Compiled as C and as C++.
+ * is the step: only every n-th text is tried. Every text whose answer is known, and every label just written, is besides read
+ * where it stands, whatever the step. Compiled as C and as C++.
  */
 #include <string.h>
 
@@ -9,6 +10,7 @@
 #include "ovenquill.h"
 #include "plain.h"
 #include "random.h"
+#include "texts.h"
 
 static long step = 1;
 
@@ -24,6 +26,7 @@ static void try_writing(int64_t position)
 static void try_text(const void *text, size_t length)
 {
     static long texts;
+    const long before = failures;
     const int64_t input = (int64_t)length;
     uint8_t *lent_text, *same_text;
     int64_t position;
@@ -37,6 +40,7 @@ static void try_text(const void *text, size_t length)
     hold("a reader in its text", input, lent_text, same_text, length);
     if (position >= 0)
         try_writing(position);
+    show_failed(before, text, length);
 }
 
 static void try_string(const char *text)
@@ -46,7 +50,7 @@ static void try_string(const char *text)
 
 /* A text that is put together from its front. Zero bytes follow it. */
 struct built {
-    char bytes[300];
+    char bytes[500];
     size_t length;
 };
 
@@ -59,6 +63,12 @@ static void add_bytes(struct built *text, const char *bytes, size_t length)
 static void add(struct built *text, const char *bytes)
 {
     add_bytes(text, bytes, strlen(bytes));
+}
+
+static void add_times(struct built *text, char byte, size_t times)
+{
+    memset(text->bytes + text->length, byte, times);
+    text->length += times;
 }
 
 static void try_built(const struct built *text)
@@ -100,16 +110,21 @@ static void try_timestamp(const char *timestamp)
 
 static void know_position(const char *text, int64_t right)
 {
-    same(text, 0, ovenquill_read_position((const uint8_t *)text, strlen(text)), right);
+    const long before = failures;
+    same("a known timestamp", 0, read_position(text), right);
+    show_failed(before, text, strlen(text));
     try_timestamp(text);
 }
 
-static void know_line(const char *line, int64_t right, int64_t right_start, int64_t right_end)
+static void know_cue(const char *line, int64_t start, int64_t end)
 {
-    ovenquill_cue cue = {-1, -2};
-    same(line, 0, ovenquill_read_cue((const uint8_t *)line, strlen(line), &cue), right);
-    same(line, 1, cue.start, right == 0 ? right_start : -1);
-    same(line, 2, cue.end, right == 0 ? right_end : -2);
+    check_cue(line, start, end);
+    try_string(line);
+}
+
+static void know_refused_cue(const char *line, int64_t refusal)
+{
+    check_refused_cue(line, refusal);
     try_string(line);
 }
 
@@ -199,19 +214,19 @@ static void check_known_lines(void)
         "00:01.000 --> 5124095576031:00:00.000", "00:01.000 --> 4294967296:00:02.000",
     };
     size_t i;
-    know_line("00:01.000 --> 00:02.000", 0, 1000, 2000);
-    know_line("00:01.000\t-->\t00:02.000", 0, 1000, 2000);
-    know_line("00:01.000 \t  -->\t\t 00:02.000", 0, 1000, 2000);
-    know_line("00:00.000 --> 00:00.001", 0, 0, 1);
-    know_line("01:02.003 --> 00:01:02.004", 0, 62003, 62004);
-    know_line("00:01:02.003 --> 01:02.004", 0, 62003, 62004);
-    know_line("000000000000000000000000000000:01:02.003 --> 0000000000000000000000001:00:00.000", 0, 62003, 3600000);
-    know_line("00:00.000 --> 99999:59:59.999", 0, 0, OVENQUILL_LAST_POSITION);
-    know_line("1193:02:47.295 --> 1193:02:47.296", 0, 4294967295, 4294967296);
+    know_cue("00:01.000 --> 00:02.000", 1000, 2000);
+    know_cue("00:01.000\t-->\t00:02.000", 1000, 2000);
+    know_cue("00:01.000 \t  -->\t\t 00:02.000", 1000, 2000);
+    know_cue("00:00.000 --> 00:00.001", 0, 1);
+    know_cue("01:02.003 --> 00:01:02.004", 62003, 62004);
+    know_cue("00:01:02.003 --> 01:02.004", 62003, 62004);
+    know_cue("000000000000000000000000000000:01:02.003 --> 0000000000000000000000001:00:00.000", 62003, 3600000);
+    know_cue("00:00.000 --> 99999:59:59.999", 0, OVENQUILL_LAST_POSITION);
+    know_cue("1193:02:47.295 --> 1193:02:47.296", 4294967295, 4294967296);
     for (i = 0; i < COUNT(malformed); i++)
-        know_line(malformed[i], OVENQUILL_MALFORMED_TIMING, 0, 0);
+        know_refused_cue(malformed[i], OVENQUILL_MALFORMED_TIMING);
     for (i = 0; i < COUNT(above); i++)
-        know_line(above[i], OVENQUILL_POSITION_OUT_OF_RANGE, 0, 0);
+        know_refused_cue(above[i], OVENQUILL_POSITION_OUT_OF_RANGE);
 }
 
 /* Texts that are held to plain.h */
@@ -290,7 +305,7 @@ static void check_lengths(void)
     char text[SHORT];
     int round;
     for (length = 0; length <= SHORT; length++) {
-        for (round = 0; round < 1000; round++) {
+        for (round = 0; round < 5000; round++) {
             for (i = 0; i < length; i++)
                 text[i] = likely_byte();
             try_text(text, length);
@@ -301,8 +316,9 @@ static void check_lengths(void)
                 try_text(right_texts[i], length);
                 try_string(right_texts[i] + length);
             }
-            for (j = 0; j < COUNT(right_texts) && length <= strlen(right_texts[j]); j++)
-                try_changed(right_texts[i], right_length, 0, right_texts[j], length);
+            for (j = 0; j < COUNT(right_texts); j++)
+                if (length <= strlen(right_texts[j]))
+                    try_changed(right_texts[i], right_length, 0, right_texts[j], length);
         }
     }
 }
@@ -312,7 +328,7 @@ static void check_much_damage(void)
 {
     long round;
     int damaged;
-    for (round = 0; round < 60000; round++) {
+    for (round = 0; round < 700000; round++) {
         struct built text = {"", 0};
         add(&text, right_texts[(size_t)round % COUNT(right_texts)]);
         for (damaged = (int)random_within(2, 4); damaged > 0; damaged--)
@@ -350,6 +366,21 @@ static void check_hours(void)
     }
 }
 
+/* Hours of up to 200 digits, all but one of them zeros. */
+static void check_one_digit(void)
+{
+    size_t digits, place, i;
+    for (digits = 1; digits <= 200; digits++)
+        for (place = 0; place < digits; place++)
+            for (i = 0; i < 3; i++) {
+                struct built text = {"", 0};
+                add_times(&text, '0', digits);
+                text.bytes[place] = i == 0 ? '1' : i == 1 ? '9' : "2345678"[random_within(0, 6)];
+                add(&text, ":12:34.567");
+                try_timestamp(text.bytes);
+            }
+}
+
 /* Up to five blanks on either side of the arrow, each a space or a tab: the bits of a number below its highest one. */
 static void check_blanks(void)
 {
@@ -369,6 +400,69 @@ static void check_blanks(void)
                 try_line("00:00:01.000", between.bytes, "100:00:02.000");
                 try_line("", between.bytes, "00:02.000");
                 try_line("00:01.000", between.bytes, "");
+            }
+}
+
+/* Adds that many spaces and tabs: in turn, a tab amid spaces, a space amid tabs, or, by any other pattern, at random. */
+static void add_blanks(struct built *text, size_t count, int pattern)
+{
+    const size_t odd = (size_t)random_within(0, (int64_t)count - 1);
+    size_t i;
+    for (i = 0; i < count; i++) {
+        const size_t tab = pattern == 0 ? i % 2 : pattern == 1 ? i == odd : pattern == 2 ? i != odd : (size_t)random_within(0, 1);
+        add_bytes(text, &" \t"[tab], 1);
+    }
+}
+
+/* Up to 100 blanks on either side of the arrow, of every pattern, as they are and with a byte of them damaged. */
+static void check_many_blanks(void)
+{
+    size_t blanks, i;
+    int pattern;
+    for (blanks = 1; blanks <= 100; blanks++)
+        for (pattern = 0; pattern < 40; pattern++) {
+            const size_t few = (size_t)random_within(1, 100);
+            const size_t counts[][2] = {{blanks, 1}, {1, blanks}, {blanks, few}, {few, blanks}};
+            for (i = 0; i < COUNT(counts); i++) {
+                struct built line = {"", 0}, before, behind;
+                size_t arrow;
+                add(&line, pattern % 3 == 0 ? "00:00:01.000" : "00:01.000");
+                add_blanks(&line, counts[i][0], pattern);
+                arrow = line.length;
+                add(&line, "-->");
+                add_blanks(&line, counts[i][1], pattern);
+                add(&line, pattern % 4 == 0 ? "100:00:02.000" : "00:02.000");
+                try_built(&line);
+                before = line, behind = line;
+                before.bytes[arrow - (size_t)random_within(1, (int64_t)counts[i][0])] = likely_byte();
+                behind.bytes[arrow + 2 + (size_t)random_within(1, (int64_t)counts[i][1])] = likely_byte();
+                try_built(&before);
+                try_built(&behind);
+            }
+        }
+}
+
+/* Right lines whose hours or blanks are up to 100, one of them or all, with blanks, line endings and others before and behind. */
+static void check_around_long_lines(void)
+{
+    static const char *const around[] = {"", " ", "\t", "\n", "\r", "\r\n", "\v", " \t", "0", ":", "-", "\xa0"};
+    size_t many, part, i;
+    for (many = 1; many <= 100; many++)
+        for (part = 0; part < 5; part++)
+            for (i = 0; i < COUNT(around); i++) {
+                struct built line = {"", 0}, text = {"", 0};
+                add_times(&line, '0', part == 0 || part == 4 ? many : 1);
+                add(&line, "1:01:02.003");
+                add_blanks(&line, part == 1 || part == 4 ? many : 1, 3);
+                add(&line, "-->");
+                add_blanks(&line, part == 2 || part == 4 ? many : 1, 3);
+                add_times(&line, '0', part == 3 || part == 4 ? many : 1);
+                add(&line, "99999:59:59.999");
+                add(&text, around[i]);
+                add(&text, line.bytes);
+                try_built(&text);
+                add(&line, around[i]);
+                try_built(&line);
             }
 }
 
@@ -484,7 +578,10 @@ int main(int argc, char **argv)
     check_much_damage();
     check_lengths();
     check_hours();
+    check_one_digit();
     check_blanks();
+    check_many_blanks();
+    check_around_long_lines();
     check_other_blanks();
     check_pairs();
     check_pieces();

@@ -194,8 +194,10 @@ impl<const MOST: usize> Text<MOST> {
     fn length(&self) -> usize {
         self.length.into()
     }
+}
 
-    pub fn bytes_mut(&mut self) -> &mut [u8] {
+impl<const MOST: usize> AsMut<[u8]> for Text<MOST> {
+    fn as_mut(&mut self) -> &mut [u8] {
         &mut self.bytes[..usize::from(self.length)]
     }
 }

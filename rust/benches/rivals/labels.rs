@@ -177,9 +177,33 @@ fn below_60(tens: u8, ones: u8) -> Result<u64, i64> {
     }
 }
 
-/// The position of a timestamp, or a refusal. Hours that are too many are counted as one too many.
+/// The hours that stand with their colon before `MM:SS.mmm`, one too many where they are too many; 0 where nothing does.
 #[inline(always)]
-fn timestamp(text: &[u8]) -> Result<i64, i64> {
+fn hours(front: &[u8]) -> Result<u64, i64> {
+    let mut hours = 0;
+    if let Some((&colon, digits)) = front.split_last() {
+        if colon != b':' || digits.len() < 2 {
+            return Err(13);
+        }
+        for &byte in digits {
+            hours = (hours * 10 + digit(byte)?).min(LAST_HOURS + 1);
+        }
+    }
+    Ok(hours)
+}
+
+/// The position of a number of hours and of a time below an hour, or a refusal.
+#[inline(always)]
+fn position(hours: u64, minute: u64, second: u64, millisecond: u64) -> Result<i64, i64> {
+    if hours > LAST_HOURS {
+        return Err(6);
+    }
+    Ok((((hours * 60 + minute) * 60 + second) * POSITION_SECOND as u64 + millisecond) as i64)
+}
+
+/// The position of a timestamp, or a refusal: byte by byte, the first wrong one ends it.
+#[inline(always)]
+fn by_bytes(text: &[u8]) -> Result<i64, i64> {
     if text.len() < CLOCK_BYTES {
         return Err(13);
     }
@@ -193,24 +217,42 @@ fn timestamp(text: &[u8]) -> Result<i64, i64> {
         return Err(13);
     }
     let millisecond = digit(clock[6])? * 100 + digit(clock[7])? * 10 + digit(clock[8])?;
-    let mut hours = 0;
-    if let Some((&colon, digits)) = front.split_last() {
-        if colon != b':' || digits.len() < 2 {
-            return Err(13);
-        }
-        for &byte in digits {
-            hours = (hours * 10 + digit(byte)?).min(LAST_HOURS + 1);
-        }
+    position(hours(front)?, minute, second, millisecond)
+}
+
+/// The same, with the tests of the bytes joined: those of `MM:SS.mmm`, and those of hours of two digits.
+#[inline(always)]
+fn by_joined_tests(text: &[u8]) -> Result<i64, i64> {
+    // 0 for a digit up to the last one; a mark is tested by `^`. So no test is a branch of its own.
+    let no_digit = |byte: u8, last: u8| u8::from(byte.wrapping_sub(b'0') > last);
+    let number = |byte: u8| u64::from(byte - b'0');
+    let (front, &[m, n, colon, s, t, point, a, b, c]) = text.split_last_chunk::<CLOCK_BYTES>().ok_or(13)?;
+    let wrong_minute = no_digit(m, 5) | no_digit(n, 9) | (colon ^ b':');
+    let wrong_second = no_digit(s, 5) | no_digit(t, 9) | (point ^ b'.');
+    if wrong_minute | wrong_second | no_digit(a, 9) | no_digit(b, 9) | no_digit(c, 9) != 0 {
+        return Err(13);
     }
-    if hours > LAST_HOURS {
-        return Err(6);
+    let hours = match *front {
+        [h, o, colon] if no_digit(h, 9) | no_digit(o, 9) | (colon ^ b':') != 0 => return Err(13),
+        [h, o, _] => number(h) * 10 + number(o),
+        _ => hours(front)?,
+    };
+    let millisecond = number(a) * 100 + number(b) * 10 + number(c);
+    position(hours, number(m) * 10 + number(n), number(s) * 10 + number(t), millisecond)
+}
+
+#[inline(always)]
+fn timestamp<const JOINED: bool>(text: &[u8]) -> Result<i64, i64> {
+    if JOINED {
+        by_joined_tests(text)
+    } else {
+        by_bytes(text)
     }
-    Ok((((hours * 60 + minute) * 60 + second) * POSITION_SECOND as u64 + millisecond) as i64)
 }
 
 #[inline(never)]
-pub unsafe extern "C" fn read_position(text: *const u8, length: usize) -> i64 {
-    returned(timestamp(slice::from_raw_parts(text, length)))
+pub unsafe extern "C" fn read_position<const JOINED: bool>(text: *const u8, length: usize) -> i64 {
+    returned(timestamp::<JOINED>(slice::from_raw_parts(text, length)))
 }
 
 fn blank(byte: &u8) -> bool {
@@ -224,13 +266,27 @@ fn after_blanks(text: &[u8]) -> Option<&[u8]> {
     (blanks != 0).then(|| &text[blanks..])
 }
 
+/// Where the first timestamp of a line ends: at a blank. With joined tests, the two usual places are tried first; no line in
+/// which a blank stands before them is right.
+#[inline(always)]
+fn first_end<const JOINED: bool>(line: &[u8]) -> Option<usize> {
+    if JOINED {
+        for usual in [CLOCK_BYTES, "HH:".len() + CLOCK_BYTES] {
+            if line.get(usual).is_some_and(blank) {
+                return Some(usual);
+            }
+        }
+    }
+    line.iter().position(blank)
+}
+
 /// The cue of a line, or a refusal.
 #[inline(always)]
-fn cue(line: &[u8]) -> Result<Cue, i64> {
-    let (start, rest) = line.split_at(line.iter().position(blank).ok_or(13)?);
+fn cue<const JOINED: bool>(line: &[u8]) -> Result<Cue, i64> {
+    let (start, rest) = line.split_at(first_end::<JOINED>(line).ok_or(13)?);
     let rest = after_blanks(rest).and_then(|rest| rest.strip_prefix(b"-->")).ok_or(13)?;
     let end = after_blanks(rest).ok_or(13)?;
-    match (timestamp(start), timestamp(end)) {
+    match (timestamp::<JOINED>(start), timestamp::<JOINED>(end)) {
         (Ok(start), Ok(end)) if end > start => Ok(Cue { start, end }),
         (Ok(_), Ok(_)) | (Err(13), _) | (_, Err(13)) => Err(13),
         _ => Err(6),
@@ -238,6 +294,6 @@ fn cue(line: &[u8]) -> Result<Cue, i64> {
 }
 
 #[inline(never)]
-pub unsafe extern "C" fn read_cue(line: *const u8, length: usize, place: *mut Cue) -> i64 {
-    to_place(place, cue(slice::from_raw_parts(line, length)))
+pub unsafe extern "C" fn read_cue<const JOINED: bool>(line: *const u8, length: usize, place: *mut Cue) -> i64 {
+    to_place(place, cue::<JOINED>(slice::from_raw_parts(line, length)))
 }

@@ -345,7 +345,7 @@ fn hours(text: &[u8]) -> Option<i64> {
     }
 }
 
-/// The position of a timestamp, above the last one where its hours are; nothing where it has another shape.
+/// The position of a timestamp, above the last one where its hours are; nothing where it has a wrong shape.
 fn timestamp(text: &[u8]) -> Option<i64> {
     let parts: Vec<&[u8]> = text.split(|&byte| byte == b':').collect();
     let (hours, minutes, rest) = match parts[..] {
