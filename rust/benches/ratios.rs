@@ -324,6 +324,7 @@ fn timing_lines() {
     let with_hours = texts(|| timestamp(some_position(random, 2), 2));
     let both = either(random, &with_hours, &without_hours);
     let damaged_texts = damaged(random, &with_hours);
+    let of_any_size = texts(|| timestamp(random.of_any_size(*POSITIONS.start(), *POSITIONS.end()), 2));
     let of_any_form = texts(|| {
         let digits = some_digits(random);
         timestamp(some_position(random, digits), digits)
@@ -333,7 +334,8 @@ fn timing_lines() {
         ("read a position, MM:SS.mmm", &without_hours),
         ("read a position, either", &both),
         ("read a position, 1 in 8 damaged", &damaged_texts),
-        ("read a position, hours of any size", &of_any_form),
+        ("read a position, of any size", &of_any_size),
+        ("read a position, of any form", &of_any_form),
     ] {
         line::<PositionReader>(
             what,

@@ -122,7 +122,7 @@ fn hour_digits(hours: u32) -> usize
     5
 }
 
-// The position of a timestamp. 13 for a text of another shape, then 6 for a position above the limit.
+// The position of a timestamp. 13 for a text of a wrong shape, then 6 for a position above the limit.
 pub fn read_position(text: &[u8]) -> NumberAnswer
     ensures { λ r. ⌜ numberOutcome r ≡ positionAnswer (now (text .entry)) ⌝ }
 {
@@ -136,7 +136,7 @@ pub fn read_position(text: &[u8]) -> NumberAnswer
     NumberAnswer::Value(position as i64)
 }
 
-// The start and the end of a cue timing line. 13 for a line of another shape, then 6 for a position above the limit, then 13 for an end
+// The start and the end of a cue timing line. 13 for a line of a wrong shape, then 6 for a position above the limit, then 13 for an end
 // not later than its start.
 pub fn read_cue(line: &[u8]) -> CueAnswer
     ensures { λ r. ⌜ cueOutcome r ≡ cueLineAnswer (now (line .entry)) ⌝ }
