@@ -15,16 +15,17 @@ use Rattle.numbers.specs.Floor.{floorRemainder}
 use Rattle.numbers.specs.Range.{outside, since}
 use Rattle.refusal.proofs.Outcomes.{clash, passes, same-value}
 use Rattle.numbers.proofs.Integers.{outside-no, add-since, since-add, since-le, lt-add, add-injective}
-use Rattle.numbers.proofs.Between.{inside-pos, inside-from}
+use Rattle.numbers.proofs.Between.{natural-within, inside-pos, inside-from}
 use Rattle.numbers.proofs.Bools.{no-both}
 use Rattle.calendar.specs.declared.Date.{Date}
 use Rattle.calendar.specs.Range.{firstYear, lastYear, firstCount, lastCount}
-use Rattle.calendar.specs.Gregorian.{divides, leapYear, monthLengths, daysBefore, dateOf, nextDay, dateAfter, ValidDate, Earlier, by-year, by-month, by-day}
+use Rattle.calendar.specs.Gregorian.{divides, leapYear, monthLengths, monthLength, daysBefore, dateOf, nextDay, dateAfter, ValidDate, Earlier, by-year, by-month, by-day}
 use Rattle.calendar.specs.Count.{dateOfCount, countOfDate, weekday, weekdayAfter, sum, dayOfYear}
 use Rattle.calendar.specs.Answers.{daysAnswer, civilAnswer, addDaysAnswer}
-use Rattle.calendar.specs.Closed.{fromYear, toYear, baseYear, cycle, lastDay, leapDay, leapℕ, leaps, start, monthDays, before, Valid, InRange, dayNumber, public}
+use Rattle.calendar.specs.Closed.{fromYear, toYear, baseYear, cycle, lastDay, leapDay, leapℕ, leaps, start, monthDays, daysByBits, before, Valid, InRange, dayNumber, public}
 use Rattle.calendar.proofs.Leap.{leap-public}
-use Rattle.calendar.proofs.Months.{length-public, within-year, table-sum}
+use Rattle.calendar.proofs.Months.{length-of, length-public, within-year, table-sum}
+use Rattle.calendar.proofs.Lengths.{bits-days}
 use Rattle.calendar.proofs.Order.{Precedes, in-year, in-month, in-day, precedes-less, trichotomy}
 use Rattle.calendar.proofs.Steps.{at, found, count-after, at-in-range}
 use Rattle.calendar.proofs.Tests.{valid-answer, accepted-valid, accepted-is}
@@ -218,6 +219,15 @@ day-of-year-is-in-range d v =
 -- the rule of the table of days before each month: the sum of the lengths of the months before it
 pub table-rule : (m : ℕ) → 1 ≤ m → m ≤ 12 → getD daysBefore (m - 1) 0 ≡ sum (take (m - 1) (monthLengths false))
 table-rule = table-sum
+
+-- the length of each month, in leap and common years, is the form of source document 001
+pub length-by-bits :
+    (year month : ℤ) → outside (pos 1) (pos 12) month ≡ false →
+    monthLength year month ≡ pos (daysByBits (cond (leapYear year) 1 0) (natAbs month))
+unfolding monthLength
+length-by-bits year month h =
+    let n = natural-within 1 (pos 12) month h in
+    ap pos (length-of (leapYear year) (natAbs month) (n .low) (n .high) ∙ sym (bits-days (cond (leapYear year) 1 0) (natAbs month) (n .low) (n .high)))
 
 -- the leap flag is the leap rule
 leap-tests : (a b c : Bool) → ((a && not (b && not c)) ≡ true) ↔ ((a ≡ true) × (b ≡ true → c ≡ true))

@@ -11,3 +11,4 @@ pub mod Shift
 pub mod March
 pub mod Conversion
 pub mod Laws
+pub mod BothWays

@@ -78,7 +78,7 @@ within-year l m d a b e f =
     omega (arith, before-step l m, before-step l 12, before-monotone l (m + 1) 13 (omega arith), year-length l)
 
 -- the lengths of document 01 are those of the closed forms
-length-of : (t : Bool) (m : ℕ) → 1 ≤ m → m ≤ 12 → getD (monthLengths t) (m - 1) 0 ≡ monthDays (cond t 1 0) m
+pub length-of : (t : Bool) (m : ℕ) → 1 ≤ m → m ≤ 12 → getD (monthLengths t) (m - 1) 0 ≡ monthDays (cond t 1 0) m
 unfolding monthLengths monthDays
 length-of true = each-month (λ m. getD (monthLengths true) (m - 1) 0 ≡ monthDays 1 m) (omega arith)
 length-of false = each-month (λ m. getD (monthLengths false) (m - 1) 0 ≡ monthDays 0 m) (omega arith)

@@ -1,4 +1,5 @@
--- What private functions answer, for proofs and private contracts only: a tested date, and the length of a month of a common year.
+-- What private functions answer, for proofs and private contracts only: a tested date, and the length of a month.
+use Prim.Native.Nat.{ℕ}
 use mathlib.Core.Bool.{cond}
 use lib.IntN.{ℤ, pos, natAbs}
 use Rattle.refusal.specs.Numbers.{refusalNumber}
@@ -17,6 +18,6 @@ abbrev pub CheckedInRange : Checked → Type 0
 CheckedInRange (Accepted y m d) = InRange y m d
 CheckedInRange (Refused r) = Unit {0}
 
--- 2 for a month outside 1..12, else its length in a common year
-unfoldable pub commonLength : (month : ℤ) → Outcome ℤ
-commonLength month = cond (outside (pos 1) (pos 12) month) (refused 2) (value (pos (monthDays 0 (natAbs month))))
+-- 2 for a month outside 1..12, else its length in a year with l leap days
+unfoldable pub lengthAnswer : (l : ℕ) (month : ℤ) → Outcome ℤ
+lengthAnswer l month = cond (outside (pos 1) (pos 12) month) (refused 2) (value (pos (monthDays l (natAbs month))))

@@ -13,6 +13,7 @@
 use base::BASE_COUNT;
 use base::BASE_YEAR;
 use base::FIRST_WEEKDAY;
+use length_by_bits::month_length;
 use range::FIRST_COUNT;
 use range::FIRST_YEAR;
 use range::LAST_COUNT;
@@ -22,6 +23,8 @@ use refusal::Refusal;
 
 mod base;
 mod convert;
+mod length_by_bits;
+mod length_by_match;
 pub mod range;
 mod year;
 
@@ -35,7 +38,7 @@ ghost use Rattle.calendar.specs.Range.{firstYear, lastYear, firstCount, 
 ghost use Rattle.calendar.specs.Count.{dateOfCount};
 ghost use Rattle.calendar.specs.Answers.{dateOutcome, flagOutcome, leapAnswer, lastDayAnswer, ofDate, daysAnswer, dayOfYearAnswer, civilAnswer, weekdayAnswer, addDaysAnswer};
 ghost use Rattle.calendar.specs.Closed.{fromYear, toYear, baseYear, lastDay};
-ghost use Rattle.calendar.specs.Checked.{checkedOutcome, CheckedInRange, commonLength};
+ghost use Rattle.calendar.specs.Checked.{checkedOutcome, CheckedInRange};
 
 pub struct Date {
     pub year: i64,
@@ -102,13 +105,7 @@ pub fn last_day_of_month(year: i64, month: i64) -> NumberAnswer
     if numbers::outside(FIRST_YEAR, LAST_YEAR, year) {
         return NumberAnswer::Refused(Refusal::YearOutOfRange);
     }
-    match common_length(month) {
-        NumberAnswer::Value(length) => {
-            let leap = year::leap_day(years_from_base(year));
-            NumberAnswer::Value(length + ((month == 2) as u32 * leap) as i64)
-        }
-        NumberAnswer::Refused(r) => NumberAnswer::Refused(r),
-    }
+    month_length(years_from_base(year), month)
 }
 
 // The day of the year of a date, from 1.
@@ -135,19 +132,6 @@ pub fn add_days(year: i64, month: i64, day: i64, days: i64) -> DateAnswer
             DateAnswer::Value(date_of_count(count + days))
         }
         NumberAnswer::Refused(r) => DateAnswer::Refused(r),
-    }
-}
-
-// The length of a month of a common year.
-fn common_length(month: i64) -> NumberAnswer
-    ensures { λ r. ⌜ numberOutcome r ≡ commonLength month ⌝ }
-{
-    match month {
-        1 | 3 | 5 | 7 => NumberAnswer::Value(31),
-        4 | 6 | 9 | 11 => NumberAnswer::Value(30),
-        8 | 10 | 12 => NumberAnswer::Value(31),
-        2 => NumberAnswer::Value(28),
-        _ => NumberAnswer::Refused(Refusal::MonthOutOfRange),
     }
 }
 
