@@ -74,7 +74,14 @@ endif
 test-rust: $(LIB) $(CHRONO)
 	tests/rust/run
 
-bench: $(LIB) $(CHRONO)
+# The benchmarks compare the two ways to a month's length, so they link a second archive in which the other one is in use.
+BY_MATCH := build/by_match/libovenquill_by_match.a
+
+$(BY_MATCH): $(RATTLE) tools/build_by_match
+	tools/build_by_match $@
+
+bench: export OVENQUILL_BY_MATCH := $(CURDIR)/build/by_match
+bench: $(LIB) $(CHRONO) $(BY_MATCH)
 	cd rust && cargo bench --quiet
 
 install: $(LIB)

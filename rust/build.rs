@@ -1,6 +1,7 @@
 // Links the archive that `make` writes. OVENQUILL_LIB names another folder that holds it; a relative one is taken from this
-// package's folder, and an empty name is none. OVENQUILL_CHRONO names the folder of libovenquill_chrono.a, which
-// benches/chrono.cpp says how to make: the benchmarks then have its lines too.
+// package's folder, and an empty name is none. For the benchmarks, which then have its lines too, OVENQUILL_CHRONO names the
+// folder of libovenquill_chrono.a, which benches/chrono.cpp says how to make, and OVENQUILL_BY_MATCH that of
+// libovenquill_by_match.a, which tools/build_by_match makes.
 use std::path::{absolute, PathBuf};
 use std::{env, process};
 
@@ -23,11 +24,13 @@ fn main() {
     println!("cargo:rustc-link-search=native={}", folder.display());
     println!("cargo:rustc-link-lib=static=ovenquill");
 
-    println!("cargo:rustc-check-cfg=cfg(chrono)");
-    if let Some(folder) = named("OVENQUILL_CHRONO") {
-        let archive = folder.join("libovenquill_chrono.a");
-        println!("cargo:rustc-cfg=chrono");
-        println!("cargo:rustc-link-arg-benches={}", archive.display());
-        println!("cargo:rerun-if-changed={}", archive.display());
+    for name in ["chrono", "by_match"] {
+        println!("cargo:rustc-check-cfg=cfg({name})");
+        if let Some(folder) = named(&format!("OVENQUILL_{}", name.to_uppercase())) {
+            let archive = folder.join(format!("libovenquill_{name}.a"));
+            println!("cargo:rustc-cfg={name}");
+            println!("cargo:rustc-link-arg-benches={}", archive.display());
+            println!("cargo:rerun-if-changed={}", archive.display());
+        }
     }
 }

@@ -1,7 +1,8 @@
 //! The library against its rivals: one line for each pair, ours / rival, measured as benches/measure says.
 //!
 //! Ours are the shipped C calls. The rivals are plain Rust (benches/rivals) and, where OVENQUILL_CHRONO is set, libstdc++'s
-//! chrono (benches/chrono.cpp), with the same signatures, answers and refusals.
+//! chrono (benches/chrono.cpp), with the same signatures, answers and refusals. Where OVENQUILL_BY_MATCH is set, a table of
+//! its own compares the two ways to a month's length.
 
 mod measure;
 #[path = "../tests/support/random.rs"]
@@ -32,17 +33,24 @@ fn main() {
     println!("Rounds: the ratios of single rounds, in which a part counts at most twice its median.");
     println!("Best: the sum over the parts of a part's least time, for one call.");
     println!("The walk of the residues takes time linear in d, ours does not: its lines compare two algorithms.");
-    println!();
-    println!("| call | rival | ratio | rounds, least to largest | rounds, middle half | best of ours | of the rival |");
-    println!("|---|---|---|---|---|---|---|");
+    heading();
     calendar_lines();
     instant_lines();
     label_lines();
     timing_lines();
     index_lines();
     constants_lines();
+    #[cfg(by_match)]
+    month_length_lines();
     println!();
     constants_times();
+}
+
+/// Begins a table of lines.
+fn heading() {
+    println!();
+    println!("| call | rival | ratio | rounds, least to largest | rounds, middle half | best of ours | of the rival |");
+    println!("|---|---|---|---|---|---|---|");
 }
 
 #[cfg(chrono)]
@@ -57,16 +65,26 @@ fn numbers(random: &mut Random, range: std::ops::RangeInclusive<i64>) -> Vec<i64
 
 // The calendar
 
+fn some_counts(random: &mut Random) -> Vec<[i64; 1]> {
+    numbers(random, DAYS).into_iter().map(|days| [days]).collect()
+}
+
+fn dates_of(counts: &[[i64; 1]]) -> Vec<[i64; 3]> {
+    let date_of = |&[days]: &[i64; 1]| {
+        let Date { year, month, day } = ovenquill::civil_from_days(days).expect("a count in the range");
+        [year, month, day]
+    };
+    counts.iter().map(date_of).collect()
+}
+
+fn months_of(dates: &[[i64; 3]]) -> Vec<[i64; 2]> {
+    dates.iter().map(|&[year, month, _]| [year, month]).collect()
+}
+
 fn calendar_lines() {
     let mut random = Random::new(101);
-    let counts: Vec<[i64; 1]> = numbers(&mut random, DAYS).into_iter().map(|days| [days]).collect();
-    let dates: Vec<[i64; 3]> = counts
-        .iter()
-        .map(|&[days]| {
-            let Date { year, month, day } = ovenquill::civil_from_days(days).expect("a count in the range");
-            [year, month, day]
-        })
-        .collect();
+    let counts = some_counts(&mut random);
+    let dates = dates_of(&counts);
     // One in eight is refused, at random.
     let past_the_range = DAYS.end() - DAYS.start() + 1;
     let past_the_years = YEARS.end() - YEARS.start() + 1;
@@ -93,7 +111,7 @@ fn calendar_lines() {
         .map(|(&[days], &[year, month, day])| [year, month, day, random.within(*DAYS.start(), *DAYS.end()) - days])
         .collect();
     let years: Vec<[i64; 1]> = dates.iter().map(|&[year, ..]| [year]).collect();
-    let months: Vec<[i64; 2]> = dates.iter().map(|&[year, month, _]| [year, month]).collect();
+    let months = months_of(&dates);
 
     for (what, inputs) in [("days to date", &counts), ("days to date, 1 in 8 refused", &mixed_counts)] {
         line::<OneTo<Date>>(
@@ -170,6 +188,26 @@ fn calendar_lines() {
             #[cfg(chrono)]
             (CHRONO, chrono::chrono_day_of_year),
         ],
+    );
+}
+
+/// The two ways to a month's length, alone and in the call that tests a date's day.
+#[cfg(by_match)]
+fn month_length_lines() {
+    let dates = dates_of(&some_counts(&mut Random::new(108)));
+    let by_match = "by the match";
+    heading();
+    line::<Two>(
+        "month length, by bits",
+        &Inputs::of(&months_of(&dates)),
+        raw::ovenquill_last_day_of_month,
+        &[(by_match, rivals::by_match::by_match_ovenquill_last_day_of_month)],
+    );
+    line::<ThreeTo<i64>>(
+        "date to days, by bits",
+        &Inputs::of(&dates),
+        raw::ovenquill_days_from_civil,
+        &[(by_match, rivals::by_match::by_match_ovenquill_days_from_civil)],
     );
 }
 

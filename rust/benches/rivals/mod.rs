@@ -1,6 +1,8 @@
 //! The rivals of the benchmarks: plain, hand-written Rust with the signatures, the answers and the refusals of the C calls,
-//! and, where OVENQUILL_CHRONO is set, libstdc++'s chrono.
+//! where OVENQUILL_CHRONO is set libstdc++'s chrono, and where OVENQUILL_BY_MATCH is set ours with another body.
 
+#[cfg(by_match)]
+pub mod by_match;
 pub mod calendar;
 #[cfg(chrono)]
 pub mod chrono;
