@@ -1,15 +1,16 @@
 -- The theorems of the calendar, over the definition by steps.
-use Prim.Native.Nat.{ℕ, _+_, _-_, _≤_, _<_}
+use Prim.Native.Nat.{ℕ, _+_, _-_, _/_, _^_, _≤_, _<_}
 use mathlib.Core.Path.{_≡_, refl, sym, ap, ap₂, _∙_, subst}
 use mathlib.Core.Logic.{_↔_}
 use mathlib.Core.Bool.{Bool, true, false, cond, not, _&&_}
 use native.Mathlib.Numerals.{add-one}
 use native.Mathlib.Omega.{arith}
+use lib.Bits.{bitOr, bitXor}
 use lib.Dec.{ltb}
 use lib.IntN.{ℤ, pos, natAbs, _+ℤ_, +ℤ-assoc}
 use lib.ListN.{getD, take}
 use lib.Signed.{ltZ}
-use borrow.Author.Tests.{ltb-true, lt-ltb, eqb-true, eq-eqb}
+use borrow.Author.Tests.{ltb-true, lt-ltb, eqb-true, eq-eqb, ne-eqb}
 use Rattle.refusal.specs.Outcome.{value, refused}
 use Rattle.numbers.specs.Floor.{floorRemainder}
 use Rattle.numbers.specs.Range.{outside, since}
@@ -22,7 +23,7 @@ use Rattle.calendar.specs.Range.{firstYear, lastYear, firstCount, lastCo
 use Rattle.calendar.specs.Gregorian.{divides, leapYear, monthLengths, monthLength, daysBefore, dateOf, nextDay, dateAfter, ValidDate, Earlier, by-year, by-month, by-day}
 use Rattle.calendar.specs.Count.{dateOfCount, countOfDate, weekday, weekdayAfter, sum, dayOfYear}
 use Rattle.calendar.specs.Answers.{daysAnswer, civilAnswer, addDaysAnswer}
-use Rattle.calendar.specs.Closed.{fromYear, toYear, baseYear, cycle, lastDay, leapDay, leapℕ, leaps, start, monthDays, daysByBits, before, Valid, InRange, dayNumber, public}
+use Rattle.calendar.specs.Closed.{fromYear, toYear, baseYear, cycle, lastDay, leapDay, leapℕ, leaps, start, monthDays, before, Valid, InRange, dayNumber, public}
 use Rattle.calendar.proofs.Leap.{leap-public}
 use Rattle.calendar.proofs.Months.{length-of, length-public, within-year, table-sum}
 use Rattle.calendar.proofs.Lengths.{bits-days}
@@ -220,14 +221,17 @@ day-of-year-is-in-range d v =
 pub table-rule : (m : ℕ) → 1 ≤ m → m ≤ 12 → getD daysBefore (m - 1) 0 ≡ sum (take (m - 1) (monthLengths false))
 table-rule = table-sum
 
--- the length of each month, in leap and common years, is the form of source document 001
+-- outside February the length of each month, in leap and common years, is the form of source document 001
 pub length-by-bits :
-    (year month : ℤ) → outside (pos 1) (pos 12) month ≡ false →
-    monthLength year month ≡ pos (daysByBits (cond (leapYear year) 1 0) (natAbs month))
+    (year month : ℤ) → outside (pos 1) (pos 12) month ≡ false → (month ≡ pos 2 → ⊥) →
+    monthLength year month ≡ pos (bitOr 30 (bitXor (natAbs month) (natAbs month / 2 ^ 3)))
 unfolding monthLength
-length-by-bits year month h =
+length-by-bits year month h other =
     let n = natural-within 1 (pos 12) month h in
-    ap pos (length-of (leapYear year) (natAbs month) (n .low) (n .high) ∙ sym (bits-days (cond (leapYear year) 1 0) (natAbs month) (n .low) (n .high)))
+    let e = bits-days (cond (leapYear year) 1 0) (natAbs month) (n .low) (n .high) in
+    ap pos
+    (length-of (leapYear year) (natAbs month) (n .low) (n .high)
+    ∙ sym (rw (ne-eqb (natAbs month) 2 (λ p. other (n .is ∙ ap pos p))) at e))
 
 -- the leap flag is the leap rule
 leap-tests : (a b c : Bool) → ((a && not (b && not c)) ≡ true) ↔ ((a ≡ true) × (b ≡ true → c ≡ true))

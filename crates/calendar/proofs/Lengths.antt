@@ -1,8 +1,9 @@
 -- The two ways to a month's length: what the match on the month answers with the leap day that February adds, and the month's bits.
-use Prim.Native.Nat.{ℕ, _+_, _*_, _^_, _≤_, _<_}
+use Prim.Native.Nat.{ℕ, _+_, _*_, _/_, _^_, _≤_, _<_}
 use mathlib.Core.Path.{_≡_, refl, sym, ap, ap₂, _∙_, subst}
 use mathlib.Core.Bool.{Bool, true, false, cond}
 use native.Mathlib.Omega.{arith}
+use lib.Bits.{bitOr, bitXor}
 use lib.Dec.{T, eqb}
 use lib.IntN.{ℤ, pos, natAbs, _+ℤ_}
 use lib.Signed.{nonNeg}
@@ -18,10 +19,10 @@ use Rattle.calendar.specs.Range.{firstYear, lastYear}
 use Rattle.calendar.specs.Gregorian.{monthLength}
 use Rattle.calendar.specs.Answers.{lastDayAnswer}
 use Rattle.calendar.specs.Checked.{lengthAnswer}
-use Rattle.calendar.specs.Closed.{baseYear, leapDay, monthDays, daysByBits}
+use Rattle.calendar.specs.Closed.{baseYear, leapDay, monthDays}
 use Rattle.calendar.proofs.Months.{each-month, length-le, length-public}
 
--- a month's length in the year of the leap days is what the call answers
+-- the length with the year's leap days is what `last_day_of_month` answers
 pub length-of-year :
     (year month : ℤ) (y : ℕ) → outside firstYear lastYear year ≡ false → baseYear +ℤ pos y ≡ year →
     lengthAnswer (leapDay y) month ≡ lastDayAnswer year month
@@ -36,7 +37,10 @@ length-of-year year month y h e = rw h (go (outside (pos 1) (pos 12) month) refl
         let n = natural-within 1 (pos 12) month g in
         ap value (sym (length-public y (natAbs month) (n .low) (n .high)) ∙ (λ i. monthLength (e i) (sym (n .is) i)))
 
--- by bits
+-- by bits: what `days_of` computes
+
+abbrev pub daysByBits : (l m : ℕ) → ℕ
+daysByBits l m = cond (eqb m 2) (28 + l) (bitOr 30 (bitXor m (m / 2 ^ 3)))
 
 pub bits-days : (l m : ℕ) → 1 ≤ m → m ≤ 12 → daysByBits l m ≡ monthDays l m
 unfolding monthDays

@@ -1,10 +1,9 @@
 -- Closed forms on natural numbers, for proofs and private contracts only: nobody has to believe them. They are shown equal to the
 -- calendar by steps in proofs/Steps.antt. Years are counted from `baseYear`, one cycle before the first, so that the computational
 -- calendar of source document 000, section 6, whose years begin in March, needs no number below zero.
-use Prim.Native.Nat.{ℕ, zero, suc, _+_, _-_, _*_, _/_, _%_, _^_, _≤_}
+use Prim.Native.Nat.{ℕ, zero, suc, _+_, _-_, _*_, _/_, _%_, _≤_}
 use mathlib.Core.Bool.{Bool, cond, not, _&&_}
 use mathlib.Core.List.{[], _∷_}
-use lib.Bits.{bitOr, bitXor}
 use lib.Dec.{eqb, leb}
 use lib.IntN.{ℤ, pos, _+ℤ_, _-ℤ_}
 use lib.ListN.{getD}
@@ -62,10 +61,6 @@ start y = 365 * y + leaps y
 -- the length of month m in a year with l leap days
 unfoldable pub monthDays : (l m : ℕ) → ℕ
 monthDays l m = getD (0 ∷ 31 ∷ (28 + l) ∷ 31 ∷ 30 ∷ 31 ∷ 30 ∷ 31 ∷ 31 ∷ 30 ∷ 31 ∷ 30 ∷ 31 ∷ []) m 0
-
--- the same by bits: February has 28 days and the leap days, any other month 30 | (m ^ (m >> 3)) (source document 001, "Last day of month")
-abbrev pub daysByBits : (l m : ℕ) → ℕ
-daysByBits l m = cond (eqb m 2) (28 + l) (bitOr 30 (bitXor m (m / 2 ^ 3)))
 
 -- the days before month m of a year with l leap days
 unfoldable pub before : (l m : ℕ) → ℕ

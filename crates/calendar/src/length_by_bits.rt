@@ -1,5 +1,4 @@
-// The length of a month by the bits of its number: source document 001, "Last day of month". This way is in use; `length_by_match` has
-// the same contract.
+// The length of a month by the bits of its number: source document 001, "Last day of month". `length_by_match` has the same contract.
 
 use super::year;
 use refusal::NumberAnswer;

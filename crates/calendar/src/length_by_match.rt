@@ -1,5 +1,4 @@
-// The length of a month by a match on its number: document 01, "Calendar rules", Month lengths. This way stands beside
-// `length_by_bits`, which is in use and has the same contract.
+// The length of a month by a match on its number: document 01, "Calendar rules", Month lengths. `length_by_bits` has the same contract.
 
 use super::year;
 use refusal::NumberAnswer;
