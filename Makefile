@@ -1,5 +1,5 @@
 # Ovenquill: `make` builds the archive and the C examples, `make demo` runs these, `make test` runs every test but the proofs' own
-# gate (`rt ci`), `make bench` prints the table of ratios, `make install PREFIX=..` installs for C and C++.
+# gate (`rt ci`), `make bench` prints the tables of ratios, `make install PREFIX=..` installs for C and C++.
 
 PREFIX ?= /usr/local
 CC ?= cc
@@ -38,10 +38,12 @@ test-dates:
 	python3 tools/dates.py | cmp - crates/dates/stdout
 
 # Every must-fail edit still fits the files that it changes, and the tool that says so sees a fault. Whether the edits are refused is
-# for `rt must-fail` to say, and whether each function that they change is, for `tools/check_edits --refused`.
+# for `rt must-fail` to say, and whether each function that they change is, for `tools/check_edits --refused`. The benchmarks' own
+# edit fits too.
 test-edits:
 	tools/check_edits
 	tests/test_check_edits.py
+	tools/build_lengths --fits
 
 # The exports, the header and the Rust package declare the same calls; and the tool that says so sees a fault.
 test-declarations:
@@ -74,14 +76,14 @@ endif
 test-rust: $(LIB) $(CHRONO)
 	tests/rust/run
 
-# The benchmarks compare the two ways to a month's length, so they link a second archive in which the other one is in use.
-BY_MATCH := build/by_match/libovenquill_by_match.a
+# The benchmarks compare the two ways to a month's length, so they link a second archive that has both.
+LENGTHS := build/lengths/libovenquill_lengths.a
 
-$(BY_MATCH): $(RATTLE) tools/build_by_match
-	tools/build_by_match $@
+$(LENGTHS): $(LIB) tools/build_lengths
+	tools/build_lengths $(LIB) $@
 
-bench: export OVENQUILL_BY_MATCH := $(CURDIR)/build/by_match
-bench: $(LIB) $(CHRONO) $(BY_MATCH)
+bench: export OVENQUILL_LENGTHS := $(CURDIR)/build/lengths
+bench: $(LIB) $(CHRONO) $(LENGTHS)
 	cd rust && cargo bench --quiet
 
 install: $(LIB)

@@ -1,7 +1,7 @@
 // Links the archive that `make` writes. OVENQUILL_LIB names another folder that holds it; a relative one is taken from this
-// package's folder, and an empty name is none. For the benchmarks, which then have its lines too, OVENQUILL_CHRONO names the
-// folder of libovenquill_chrono.a, which benches/chrono.cpp says how to make, and OVENQUILL_BY_MATCH that of
-// libovenquill_by_match.a, which tools/build_by_match makes.
+// package's folder, and an empty name is none. The benchmarks have more lines where OVENQUILL_CHRONO names the folder of
+// libovenquill_chrono.a, which benches/chrono.cpp says how to make, and where OVENQUILL_LENGTHS names that of
+// libovenquill_lengths.a, which tools/build_lengths makes.
 use std::path::{absolute, PathBuf};
 use std::{env, process};
 
@@ -24,7 +24,7 @@ fn main() {
     println!("cargo:rustc-link-search=native={}", folder.display());
     println!("cargo:rustc-link-lib=static=ovenquill");
 
-    for name in ["chrono", "by_match"] {
+    for name in ["chrono", "lengths"] {
         println!("cargo:rustc-check-cfg=cfg({name})");
         if let Some(folder) = named(&format!("OVENQUILL_{}", name.to_uppercase())) {
             let archive = folder.join(format!("libovenquill_{name}.a"));

@@ -1,7 +1,7 @@
 //! The library against its rivals: one line for each pair, ours / rival, measured as benches/measure says.
 //!
 //! Ours are the shipped C calls. The rivals are plain Rust (benches/rivals) and, where OVENQUILL_CHRONO is set, libstdc++'s
-//! chrono (benches/chrono.cpp), with the same signatures, answers and refusals. Where OVENQUILL_BY_MATCH is set, a table of
+//! chrono (benches/chrono.cpp), with the same signatures, answers and refusals. Where OVENQUILL_LENGTHS is set, a table of
 //! its own compares the two ways to a month's length.
 
 mod measure;
@@ -22,6 +22,8 @@ use random::Random;
 use rivals::calendar::{BY_DIVISIONS, BY_SHIFTS};
 #[cfg(chrono)]
 use rivals::chrono;
+#[cfg(lengths)]
+use rivals::lengths;
 use rivals::{calendar, constants, instants, labels};
 
 /// The inputs of most lines.
@@ -40,10 +42,10 @@ fn main() {
     timing_lines();
     index_lines();
     constants_lines();
-    #[cfg(by_match)]
-    month_length_lines();
     println!();
     constants_times();
+    #[cfg(lengths)]
+    month_length_lines();
 }
 
 /// Begins a table of lines.
@@ -81,6 +83,15 @@ fn months_of(dates: &[[i64; 3]]) -> Vec<[i64; 2]> {
     dates.iter().map(|&[year, month, _]| [year, month]).collect()
 }
 
+/// From each date to another one of the range.
+fn shifts_of(random: &mut Random, counts: &[[i64; 1]], dates: &[[i64; 3]]) -> Vec<[i64; 4]> {
+    counts
+        .iter()
+        .zip(dates)
+        .map(|(&[days], &[year, month, day])| [year, month, day, random.within(*DAYS.start(), *DAYS.end()) - days])
+        .collect()
+}
+
 fn calendar_lines() {
     let mut random = Random::new(101);
     let counts = some_counts(&mut random);
@@ -104,12 +115,7 @@ fn calendar_lines() {
             _ => [year, month, day],
         })
         .collect();
-    // From each date to another one of the range.
-    let shifts: Vec<[i64; 4]> = counts
-        .iter()
-        .zip(&dates)
-        .map(|(&[days], &[year, month, day])| [year, month, day, random.within(*DAYS.start(), *DAYS.end()) - days])
-        .collect();
+    let shifts = shifts_of(&mut random, &counts, &dates);
     let years: Vec<[i64; 1]> = dates.iter().map(|&[year, ..]| [year]).collect();
     let months = months_of(&dates);
 
@@ -191,38 +197,20 @@ fn calendar_lines() {
     );
 }
 
-/// The two ways to a month's length, alone and in the call that tests a date's day.
-#[cfg(by_match)]
-fn month_length_lines() {
-    let dates = dates_of(&some_counts(&mut Random::new(108)));
-    let by_match = "by the match";
-    heading();
-    line::<Two>(
-        "month length, by bits",
-        &Inputs::of(&months_of(&dates)),
-        raw::ovenquill_last_day_of_month,
-        &[(by_match, rivals::by_match::by_match_ovenquill_last_day_of_month)],
-    );
-    line::<ThreeTo<i64>>(
-        "date to days, by bits",
-        &Inputs::of(&dates),
-        raw::ovenquill_days_from_civil,
-        &[(by_match, rivals::by_match::by_match_ovenquill_days_from_civil)],
-    );
-}
-
 // Instants
+
+fn fields_of(instants: &[[i64; 1]]) -> Vec<[i64; 7]> {
+    let fields_of = |&[instant]: &[i64; 1]| {
+        let f = ovenquill::split_instant(instant).expect("an instant in the range");
+        [f.year, f.month, f.day, f.hour, f.minute, f.second, f.millisecond]
+    };
+    instants.iter().map(fields_of).collect()
+}
 
 fn instant_lines() {
     let mut random = Random::new(106);
     let list: Vec<[i64; 1]> = numbers(&mut random, INSTANTS).into_iter().map(|instant| [instant]).collect();
-    let fields: Vec<[i64; 7]> = list
-        .iter()
-        .map(|&[instant]| {
-            let f = ovenquill::split_instant(instant).expect("an instant in the range");
-            [f.year, f.month, f.day, f.hour, f.minute, f.second, f.millisecond]
-        })
-        .collect();
+    let fields = fields_of(&list);
     line::<OneTo<i64>>(
         "day of an instant",
         &Inputs::of(&list),
@@ -270,17 +258,19 @@ fn damaged<T: Clone + AsMut<[u8]>>(random: &mut Random, texts: &[T]) -> Vec<T> {
     damaged
 }
 
+fn labels_of(instants: &[i64]) -> Vec<[u8; INSTANT_LABEL_BYTES]> {
+    let label_of = |&instant: &i64| {
+        let mut label = [0; INSTANT_LABEL_BYTES];
+        ovenquill::write_instant(instant, &mut label).expect("an instant in the range");
+        label
+    };
+    instants.iter().map(label_of).collect()
+}
+
 fn label_lines() {
     let mut random = Random::new(102);
     let list = numbers(&mut random, INSTANTS);
-    let right: Vec<[u8; INSTANT_LABEL_BYTES]> = list
-        .iter()
-        .map(|&instant| {
-            let mut label = [0; INSTANT_LABEL_BYTES];
-            ovenquill::write_instant(instant, &mut label).expect("an instant in the range");
-            label
-        })
-        .collect();
+    let right = labels_of(&list);
     let damaged = damaged(&mut random, &right);
     let short = numbers(&mut random, *POSITIONS.start()..=100 * labels::POSITION_HOUR - 1);
     let long: Vec<i64> = (0..INPUTS).map(|_| random.of_any_size(*POSITIONS.start(), *POSITIONS.end())).collect();
@@ -424,6 +414,56 @@ fn index_lines() {
             &[("loops without an early exit", instants::index_days)],
         );
     }
+}
+
+// The two ways to a month's length
+
+/// The calls that ask for a month's length, by bits and by the match.
+#[cfg(lengths)]
+fn month_length_lines() {
+    let random = &mut Random::new(108);
+    let counts = some_counts(random);
+    let dates = dates_of(&counts);
+    let instants = numbers(random, INSTANTS);
+    let fields = fields_of(&instants.iter().map(|&instant| [instant]).collect::<Vec<_>>());
+    let by_match = "by the match";
+    heading();
+    line::<Two>(
+        "month length, by bits",
+        &Inputs::of(&months_of(&dates)),
+        lengths::by_bits_ovenquill_last_day_of_month,
+        &[(by_match, lengths::by_match_ovenquill_last_day_of_month)],
+    );
+    line::<ThreeTo<i64>>(
+        "date to days, by bits",
+        &Inputs::of(&dates),
+        lengths::by_bits_ovenquill_days_from_civil,
+        &[(by_match, lengths::by_match_ovenquill_days_from_civil)],
+    );
+    line::<Three>(
+        "day of the year, by bits",
+        &Inputs::of(&dates),
+        lengths::by_bits_ovenquill_day_of_year,
+        &[(by_match, lengths::by_match_ovenquill_day_of_year)],
+    );
+    line::<FourTo<Date>>(
+        "shift a date, by bits",
+        &Inputs::of(&shifts_of(random, &counts, &dates)),
+        lengths::by_bits_ovenquill_add_days,
+        &[(by_match, lengths::by_match_ovenquill_add_days)],
+    );
+    line::<SevenTo<i64>>(
+        "join an instant, by bits",
+        &Inputs::of(&fields),
+        lengths::by_bits_ovenquill_join_instant,
+        &[(by_match, lengths::by_match_ovenquill_join_instant)],
+    );
+    line::<Reader>(
+        "read an instant label, by bits",
+        &Inputs::of(&labels_of(&instants)),
+        lengths::by_bits_ovenquill_read_instant,
+        &[(by_match, lengths::by_match_ovenquill_read_instant)],
+    );
 }
 
 // Constants that stand for a division

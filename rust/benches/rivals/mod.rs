@@ -1,14 +1,14 @@
 //! The rivals of the benchmarks: plain, hand-written Rust with the signatures, the answers and the refusals of the C calls,
-//! where OVENQUILL_CHRONO is set libstdc++'s chrono, and where OVENQUILL_BY_MATCH is set ours with another body.
+//! where OVENQUILL_CHRONO is set libstdc++'s chrono, and where OVENQUILL_LENGTHS is set ours with each way to a month's length.
 
-#[cfg(by_match)]
-pub mod by_match;
 pub mod calendar;
 #[cfg(chrono)]
 pub mod chrono;
 pub mod constants;
 pub mod instants;
 pub mod labels;
+#[cfg(lengths)]
+pub mod lengths;
 
 /// What a rival returns that writes its answer to a place: 0, or the refusal negated, and then the place is unchanged.
 #[inline(always)]
