@@ -39,15 +39,24 @@ fn try_label(instant: i64) {
     assert_eq!(read_instant(&label), Ok(instant), "{instant}");
 }
 
-/// Reads any bytes and holds the answer to the plain reader's; what is accepted is written again.
+/// Reads any bytes and holds the answer to the plain reader's; what is accepted is written again, in capitals.
 fn try_reading(label: &[u8]) {
     let read = read_instant(label);
     assert_eq!(answer(read), plain::read_instant(label), "{:?}", String::from_utf8_lossy(label));
     if let Ok(instant) = read {
         let mut again = [b'?'; LABEL_BYTES];
         assert_eq!(write_instant(instant, &mut again), Ok(LABEL_BYTES));
-        assert_eq!(again, label);
+        assert_eq!(again, *label.to_ascii_uppercase());
     }
+}
+
+/// The label of an instant, with other bytes for its letters.
+fn with_letters(instant: i64, t: u8, z: u8) -> [u8; LABEL_BYTES] {
+    let mut label = plain::instant_label(instant);
+    for (byte, letter) in label.iter_mut().filter(|byte| byte.is_ascii_alphabetic()).zip([t, z]) {
+        *byte = letter;
+    }
+    label
 }
 
 fn try_position(position: i64) {
@@ -199,6 +208,36 @@ fn one_byte_damaged_at_every_place_with_every_value() {
 }
 
 #[test]
+fn small_letters() {
+    for letters in [*b"TZ", *b"Tz", *b"tZ", *b"tz"] {
+        let [t, z] = letters;
+        let label = with_letters(1683729000000, t, z);
+        assert_eq!(read_instant(&label), Ok(1683729000000));
+        assert_eq!(InstantLabel::try_from(&label[..]), Ok(instant_label(1683729000000).unwrap()));
+        for value in 0..=255 {
+            for place in 0..LABEL_BYTES {
+                let mut damaged = label;
+                damaged[place] = value;
+                try_reading(&damaged);
+            }
+        }
+    }
+    // Every two bytes in place of the letters: four are taken.
+    let mut random = Random::new(19);
+    let mut taken = Vec::new();
+    for t in 0..=255 {
+        for z in 0..=255 {
+            let label = with_letters(random.within(FIRST_INSTANT, LAST_INSTANT), t, z);
+            try_reading(&label);
+            if read_instant(&label).is_ok() {
+                taken.push([t, z]);
+            }
+        }
+    }
+    assert_eq!(taken, [*b"TZ", *b"Tz", *b"tZ", *b"tz"]);
+}
+
+#[test]
 fn several_bytes_damaged() {
     let mut random = Random::new(14);
     let likely = b"0123456789-:.TZtz /+\0\x2f\x3a\x80\xb0\xff";
@@ -258,9 +297,12 @@ fn the_reader_refuses_in_order() {
         (&b""[..], 8),
         (b"2023-05-10T14:30:00.000", 8),
         (b"2023-05-10T14:30:00.000Z0", 8),
-        (b"2023-05-10t14:30:00.000Z", 8),
-        (b"2023-05-10T14:30:00.000z", 8),
         (b"2023-05-10 14:30:00.000Z", 8),
+        (b"2023-05-10Z14:30:00.000T", 8),
+        (b"2023-05-10z14:30:00.000t", 8),
+        (b"2023-05-10\xd414:30:00.000Z", 8),
+        (b"2023-05-10T14:30:00.000\xfa", 8),
+        (b"2023-05-10T14:30:00.00tZ", 8),
         (b"+023-05-10T14:30:00.000Z", 8),
         (b"2023-05-10T14:30:00,000Z", 8),
         (b"2023-13-99T99:99:99.99xZ", 8),

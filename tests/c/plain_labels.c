@@ -83,6 +83,16 @@ int64_t plain_write_instant(int64_t instant, uint8_t *out, size_t length)
     return put(label, out, length);
 }
 
+/* Whether a byte is that mark: T and Z are also taken small. */
+static int is_mark(char mark, uint8_t byte)
+{
+    if (mark == 'T')
+        return byte == 'T' || byte == 't';
+    if (mark == 'Z')
+        return byte == 'Z' || byte == 'z';
+    return byte == mark;
+}
+
 int64_t plain_read_instant(const uint8_t *label, size_t length, int64_t *instant)
 {
     char shape[80]; /* 0 for a digit; a mark ends a field */
@@ -92,7 +102,7 @@ int64_t plain_read_instant(const uint8_t *label, size_t length, int64_t *instant
     if (length != strlen(shape))
         return -8;
     for (i = 0; i < length; i++) {
-        if (shape[i] == '0' ? outside('0', '9', label[i]) : label[i] != shape[i])
+        if (shape[i] == '0' ? outside('0', '9', label[i]) : !is_mark(shape[i], label[i]))
             return -8;
         if (shape[i] == '0')
             fields[field] = fields[field] * 10 + label[i] - '0';

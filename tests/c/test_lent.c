@@ -11,6 +11,8 @@
 #include "random.h"
 
 #define LABEL OVENQUILL_INSTANT_LABEL_BYTES
+#define LETTER_T 10
+#define LETTER_Z (LABEL - 1)
 #define RIGHT_INSTANT (1683729000 * PAPER_SECOND)
 
 /* Each call at one input */
@@ -216,11 +218,22 @@ static void check_reader(void)
         plain_write_instant(random_instant(), label, LABEL);
         try_reader(label, LABEL);
     }
-    /* every byte at every place */
+    /* every byte at every place, with each letter as a capital and small */
     for (i = 0; i < LABEL; i++)
+        for (byte = 0; byte < 256; byte++)
+            for (k = 0; k < 4; k++) {
+                memcpy(label, labels, LABEL);
+                label[LETTER_T] = (uint8_t)"TtTt"[k];
+                label[LETTER_Z] = (uint8_t)"ZZzz"[k];
+                label[i] = (uint8_t)byte;
+                try_reader(label, LABEL);
+            }
+    /* every two bytes in place of the two letters */
+    for (i = 0; i < 256; i++)
         for (byte = 0; byte < 256; byte++) {
             memcpy(label, labels, LABEL);
-            label[i] = (uint8_t)byte;
+            label[LETTER_T] = (uint8_t)i;
+            label[LETTER_Z] = (uint8_t)byte;
             try_reader(label, LABEL);
         }
     /* every number in every field of two digits, alone and beside wrong ones, in years of all the range */

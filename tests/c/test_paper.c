@@ -1,6 +1,6 @@
 /*
  * Document 01's rows, "Numbers to try", a week of dates by the names of their days, and the words of change request One on
- * reading positions. Compiled as C and as C++.
+ * reading positions and of Three on small letters. Compiled as C and as C++.
  */
 #include <string.h>
 
@@ -89,6 +89,39 @@ static void check_instants(void)
     same("index", 4, ovenquill_index_days(instants, COUNT(instants), days, COUNT(days), &place), 4);
     for (i = 0; i < COUNT(instants); i++)
         same("day of an index", instants[i], days[i], right[i]);
+}
+
+/* A label with those letters is read as that instant, whose own label has capitals; or it is refused. */
+static void check_letters(char t, char z, int64_t right)
+{
+    static const char capitals[] = "2023-05-10T14:30:00.000Z";
+    uint8_t label[OVENQUILL_INSTANT_LABEL_BYTES], again[OVENQUILL_INSTANT_LABEL_BYTES];
+    int64_t instant = -1, letters = 256 * (uint8_t)t + (uint8_t)z;
+    memcpy(label, capitals, sizeof label);
+    label[10] = (uint8_t)t;
+    label[23] = (uint8_t)z;
+    same("reading letters", letters, ovenquill_read_instant(label, sizeof label, &instant), right);
+    same("instant of letters", letters, instant, right == 0 ? 1683729000000 : -1);
+    if (right != 0)
+        return;
+    same("writing again", letters, ovenquill_write_instant(instant, again, sizeof again), (int64_t)sizeof again);
+    same("capitals again", letters, memcmp(again, capitals, sizeof again), 0);
+}
+
+static void check_small_letters(void)
+{
+    check_letters('T', 'Z', 0);
+    check_letters('T', 'z', 0);
+    check_letters('t', 'Z', 0);
+    check_letters('t', 'z', 0);
+    check_letters('Z', 'T', OVENQUILL_MALFORMED_LABEL);
+    check_letters('z', 't', OVENQUILL_MALFORMED_LABEL);
+    check_letters(' ', 'z', OVENQUILL_MALFORMED_LABEL);
+    /* T and Z with other bits changed than that of small letters */
+    check_letters('\xd4', 'Z', OVENQUILL_MALFORMED_LABEL);
+    check_letters('\xf4', 'Z', OVENQUILL_MALFORMED_LABEL);
+    check_letters('T', '\xda', OVENQUILL_MALFORMED_LABEL);
+    check_letters('T', '\xfa', OVENQUILL_MALFORMED_LABEL);
 }
 
 static void check_position(int64_t position, const char *label)
@@ -197,6 +230,7 @@ int main(void)
 {
     check_calendar();
     check_instants();
+    check_small_letters();
     check_positions();
     check_timestamps();
     check_cues();

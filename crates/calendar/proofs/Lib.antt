@@ -7,6 +7,7 @@ pub mod Years
 pub mod Lengths
 pub mod Tests
 pub mod Dates
+pub mod Centuries
 pub mod Shift
 pub mod March
 pub mod Conversion

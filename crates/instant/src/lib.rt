@@ -15,7 +15,7 @@ use units::PER_DAY;
 mod floored;
 mod index;
 mod time_of_day;
-mod units;
+pub mod units;
 
 ghost use mathlib.Core.Path.{_≡_};
 ghost use Rattle.refusal.specs.Outcome.{numberOutcome};

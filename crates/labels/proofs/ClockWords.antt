@@ -5,19 +5,20 @@ use mathlib.Core.Bool.{true, _&&_}
 use mathlib.Core.List.{List, [], _∷_, _++_}
 use native.Mathlib.Omega.{arith}
 use borrow.Author.Tests.{lt-ltb, ltb-true}
-use lib.Bits.{bitAnd, bitOr, bitXor, and-block, and-mask}
-use lib.Dec.{ltb, lit<}
+use lib.Bits.{bitAnd, bitOr, bitXor}
+use lib.Dec.{ltb}
 use lib.ListN.{getD, take, drop}
 use Rattle.numbers.proofs.Bools.{and-left, and-right}
 use Rattle.labels.specs.Clock.{colon, point, clockText}
 use Rattle.labels.specs.Digits.{digits, numberAt, fits}
-use Rattle.labels.specs.Words.{word, bytesOf, pairOf, above}
+use Rattle.labels.specs.Words.{word, bytesOf, pairOf, numberOf, Thousandths, above}
 use Rattle.labels.specs.Timestamps.{isClock, isTimestamp, positionOf}
 use Rattle.labels.specs.Stamps.{wrong, stampOf}
 use Rattle.labels.proofs.Words.{AllLe, word-le, bytes-le, word-bytes}
-use Rattle.labels.proofs.Gaps.{gaps, all-fit}
+use Rattle.labels.proofs.Gaps.{gaps, AllNear, all-near, gaps-are, near-all-fit}
 use Rattle.labels.proofs.ReadValues.{pair-at}
-use Rattle.labels.proofs.Rooms.{highest, Held, raised, or-none, low-text, text-clear, gap-word, sum-below, roomy, room-clear, AllNear, all-near, near-all-fit, fits-low}
+use Rattle.labels.proofs.Rooms.{highest, Held, raised, or-none, low-text, text-clear, gap-word, sum-below, roomy, room-clear, fits-low}
+use Rattle.labels.proofs.Thousandths.{number-is}
 use Rattle.labels.proofs.Shapes.{fits-append}
 use Rattle.labels.proofs.StampNumbers.{no-stamp, is-stamp}
 
@@ -33,28 +34,6 @@ toSecondRooms = 118 ∷ 118 ∷ 127 ∷ 122 ∷ 118 ∷ 127 ∷ 122 ∷ 118 ∷ 
 
 abbrev fractionRooms : List ℕ
 fractionRooms = 127 ∷ 118 ∷ 118 ∷ 118 ∷ []
-
--- the number of three decimals behind the point, from their values
-abbrev pub thousandths : (values : ℕ) → ℕ
-thousandths values = bitAnd (values * 10 + values / 256) 16711935 * 6553601 / 65536 % 65536
-
-decimals-are : (a b c : ℕ) → a ≤ 9 → b ≤ 9 → c ≤ 9 → thousandths (((c * 256 + b) * 256 + a) * 256) ≡ a * 100 + b * 10 + c
-decimals-are a b c ha hb hc =
-    let high = c * 10 * 256 + (b * 10 + c) in
-    let low = (a * 10 + b) * 256 + a in
-    let l : low < 65536 = omega arith in
-    let pairs : ((c * 256 + b) * 256 + a) * 256 * 10 + ((c * 256 + b) * 256 + a) * 256 / 256 ≡ high * 65536 + low = omega arith in
-    let h : high % 256 ≡ b * 10 + c = omega arith in
-    let k : low % 256 ≡ a = omega arith in
-    let masked : bitAnd (((c * 256 + b) * 256 + a) * 256 * 10 + ((c * 256 + b) * 256 + a) * 256 / 256) 16711935 ≡ (b * 10 + c) * 65536 + a =
-    ap (λ n. bitAnd n 16711935) pairs ∙ and-block 16 high 255 low 255 l (lit< tt)
-    ∙ ap₂ (λ x y. x * 65536 + y) (and-mask high 8 ∙ h) (and-mask low 8 ∙ k) in
-    ap (λ n. n * 6553601 / 65536 % 65536) masked ∙ times (b * 10 + c) a (omega arith) ha ∙ omega arith
-  where
-    times : (x a : ℕ) → x ≤ 99 → a ≤ 9 → (x * 65536 + a) * 6553601 / 65536 % 65536 ≡ a * 100 + x
-    times x a h k =
-        let q : (x * 65536 + a) * 6553601 / 65536 ≡ 6553601 * x + 100 * a = omega arith in
-        ap (λ n. n % 65536) q ∙ omega arith
 
 module _ (clock fraction : ℕ) (hc : clock < 2 ^ 64) (hf : fraction < 2 ^ 32) where
   abbrev first : List ℕ
@@ -124,8 +103,8 @@ module _ (clock fraction : ℕ) (hc : clock < 2 ^ 64) (hf : fraction < 2 ^ 32) w
   high-byte never =
       no-stamp whole (λ t.
       let r = right-if t in
-      never (ap₂ bitOr (text-clear held-first (fits-low toSecondShape first (omega arith) (r .fits-first)))
-      (text-clear held-rest (fits-low fractionShape rest (omega arith) (r .fits-rest)))))
+      never (ap₂ bitOr (text-clear held-first (fits-low toSecondShape first refl (r .fits-first)))
+      (text-clear held-rest (fits-low fractionShape rest refl (r .fits-rest)))))
 
   abbrev first-bits : ℕ
   first-bits = bitAnd (bitXor clock (word toSecondShape) + word toSecondRooms) highest
@@ -137,10 +116,10 @@ module _ (clock fraction : ℕ) (hc : clock < 2 ^ 64) (hf : fraction < 2 ^ 32) w
   no-room never =
       no-stamp whole (λ t.
       let r = right-if t in
-      let n = all-near toSecondShape first (r .fits-first) in
-      let m = all-near fractionShape rest (r .fits-rest) in
-      let a = all-fit toSecondShape first (held-first .both) (r .fits-first) .gaps-are in
-      let b = all-fit fractionShape rest (held-rest .both) (r .fits-rest) .gaps-are in
+      let n = all-near toSecondShape first refl (r .fits-first) in
+      let m = all-near fractionShape rest refl (r .fits-rest) in
+      let a = gaps-are toSecondShape first refl (r .fits-first) in
+      let b = gaps-are fractionShape rest refl (r .fits-rest) in
       never (ap₂ bitOr (room-clear held-first (subst (λ g. AllLe 127 (raised toSecondRooms g)) (sym a) (rooms-first n (r .minute) (r .second))))
       (room-clear held-rest (subst (λ g. AllLe 127 (raised fractionRooms g)) (sym b) (rooms-rest m)))))
     where
@@ -234,17 +213,17 @@ module _ (clock fraction : ℕ) (hc : clock < 2 ^ 64) (hf : fraction < 2 ^ 32) w
       first-small = omega (arith, gap-word held-first, word-le 9 (gaps toSecondShape first) 8 (omega arith) nines-first)
 
       fit-first : fits toSecondShape first ≡ true
-      fit-first = near-all-fit toSecondShape first (held-first .both) near-first
+      fit-first = near-all-fit toSecondShape first refl refl near-first
 
       fit-rest : fits fractionShape rest ≡ true
-      fit-rest = near-all-fit fractionShape rest (held-rest .both) near-rest
+      fit-rest = near-all-fit fractionShape rest refl refl near-rest
 
       -- what the digits are worth, by the bytes of the text
       digit-first : (i : ℕ) → g i ≡ getD (above toSecondShape first) i 0
-      digit-first i = ap (λ l. getD l i 0) (all-fit toSecondShape first (held-first .both) fit-first .gaps-are)
+      digit-first i = ap (λ l. getD l i 0) (gaps-are toSecondShape first refl fit-first)
 
       digit-rest : (i : ℕ) → f i ≡ getD (above fractionShape rest) i 0
-      digit-rest i = ap (λ l. getD l i 0) (all-fit fractionShape rest (held-rest .both) fit-rest .gaps-are)
+      digit-rest i = ap (λ l. getD l i 0) (gaps-are fractionShape rest refl fit-rest)
 
       is-right : Right
       is-right = record {
@@ -257,24 +236,33 @@ module _ (clock fraction : ℕ) (hc : clock < 2 ^ 64) (hf : fraction < 2 ^ 32) w
       pair-is : (k : ℕ) → pairOf (bitXor clock (word toSecondShape)) k ≡ g k * 10 + g (suc k)
       pair-is k = ap (λ v. pairOf v k) (gap-word held-first) ∙ pair-at (gaps toSecondShape first) k nines-first
 
-      -- the decimals, the first of which is 0 in place of the point
-      pub rest-small : bitXor fraction (word fractionShape) < 2 ^ 28
-      rest-small = omega (arith, gap-word held-rest, rests .0, rests .1 .0, rests .1 .1 .0, rests .1 .1 .1)
+      -- the decimals, with 0 in place of the point
+      unfoldable three : Thousandths (bitXor fraction (word fractionShape))
+      three = record {
+        tenth = f 1;
+        hundredth = f 2;
+        thousandth = f 3;
+        tenth-le = rests .1 .0;
+        hundredth-le = rests .1 .1 .0;
+        thousandth-le = rests .1 .1 .1;
+        values-are = gap-word held-rest ∙ omega (arith, rests .0);
+      }
+
+      pub decimals : Thousandths (bitXor fraction (word fractionShape))
+      decimals = three
 
       pub words-stamp :
-          {hour minute second : ℕ} →
+          {hour minute second thousandths : ℕ} →
           hour ≡ pairOf (bitXor clock (word toSecondShape)) 0 → minute ≡ pairOf (bitXor clock (word toSecondShape)) 3 →
-          second ≡ pairOf (bitXor clock (word toSecondShape)) 6 →
-          hour * 3600000 + (minute * 60 + second) * 1000 + thousandths (bitXor fraction (word fractionShape)) ≡ stampOf whole
-      words-stamp {hour} {minute} {second} h m s =
+          second ≡ pairOf (bitXor clock (word toSecondShape)) 6 → thousandths ≡ numberOf (bitXor fraction (word fractionShape)) 4 →
+          hour * 3600000 + (minute * 60 + second) * 1000 + thousandths ≡ stampOf whole
+      unfolding three
+      words-stamp {hour} {minute} {second} {thousandths} h m s t =
           let a : hour ≡ g 0 * 10 + g 1 = h ∙ pair-is 0 in
           let b : minute ≡ g 3 * 10 + g 4 = m ∙ pair-is 3 in
           let c : second ≡ g 6 * 10 + g 7 = s ∙ pair-is 6 in
-          let k = thousandths (bitXor fraction (word fractionShape)) in
-          let w : bitXor fraction (word fractionShape) ≡ ((f 3 * 256 + f 2) * 256 + f 1) * 256 = gap-word held-rest ∙ omega (arith, rests .0) in
-          let d : k ≡ f 1 * 100 + f 2 * 10 + f 3 =
-          ap thousandths w ∙ decimals-are (f 1) (f 2) (f 3) (rests .1 .0) (rests .1 .1 .0) (rests .1 .1 .1) in
-          let e : hour * 3600000 + (minute * 60 + second) * 1000 + k ≡ positionOf whole = omega (
+          let d : thousandths ≡ f 1 * 100 + f 2 * 10 + f 3 = t ∙ number-is three in
+          let e : hour * 3600000 + (minute * 60 + second) * 1000 + thousandths ≡ positionOf whole = omega (
             arith,
             a,
             b,

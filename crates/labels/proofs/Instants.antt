@@ -25,9 +25,9 @@ use Rattle.instant.specs.declared.Fields.{Fields}
 use Rattle.instant.proofs.Times as times
 use Rattle.instant.proofs.Joined.{join-accepted}
 use Rattle.instant.proofs.Laws.{split-join}
-use Rattle.labels.specs.Digits.{digits}
+use Rattle.labels.specs.Digits.{digits, letterT, letterZ}
 use Rattle.labels.specs.Clock.{colon, clockText}
-use Rattle.labels.specs.Rfc3339.{dash, letterT, letterZ, labelLength, decimals, numbersText, labelText}
+use Rattle.labels.specs.Rfc3339.{dash, labelLength, decimals, numbersText, labelText}
 use Rattle.labels.specs.Words.{word, bytesOf}
 use Rattle.labels.specs.Filled.{filled}
 use Rattle.labels.specs.Parts.{HasRoom, Narrow, NarrowFields}

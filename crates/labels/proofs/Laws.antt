@@ -23,12 +23,13 @@ use Rattle.instant.specs.declared.Fields.{Fields}
 use Rattle.instant.proofs.Laws.{split-join, join-split}
 use Rattle.labels.specs.Digits.{digits, number, numberAt, fits}
 use Rattle.labels.specs.Rfc3339.{labelLength, decimals, dateText, timeText, numbersText, dateShape, timeShape, labelText, instantLabel, readFields, readAnswer}
+use Rattle.labels.specs.Capitals.{inCapitals}
 use Rattle.labels.specs.Parts.{HasRoom, NarrowFields}
 use Rattle.labels.specs.Webvtt.{perHour, positionText, positionLabel}
 use Rattle.labels.proofs.Decimal.{number-digits, number-below}
 use Rattle.labels.proofs.Positions.{length-position}
 use Rattle.labels.proofs.Shapes.{fits-both}
-use Rattle.labels.proofs.Texts.{date-back, time-back, date-fits, time-fits}
+use Rattle.labels.proofs.Texts.{date-back, date-capital, time-back, date-fits, time-fits}
 use Rattle.labels.proofs.Instants.{fields-narrow}
 use Rattle.labels.proofs.ReadBack.{position-write-read}
 
@@ -115,17 +116,20 @@ read-accepted label instant = go (fits (dateShape ++ timeShape decimals) label)
     go true e = (refl, e)
     go false e = clash (cc)
 
--- a text of the shape is the text of its numbers
+-- a text of the shape is the text of its numbers, with its letters made capital
 label-back :
     (label : List ℕ) → fits (dateShape ++ timeShape decimals) label ≡ true →
     dateText (numberAt 0 4 label) (numberAt 5 2 label) (numberAt 8 2 label)
-    ++ timeText decimals (numberAt 1 2 (drop 10 label)) (numberAt 4 2 (drop 10 label)) (numberAt 7 2 (drop 10 label)) (numberAt 10 decimals (drop 10 label)) ≡ label
+    ++ timeText decimals (numberAt 1 2 (drop 10 label)) (numberAt 4 2 (drop 10 label)) (numberAt 7 2 (drop 10 label)) (numberAt 10 decimals (drop 10 label)) ≡ inCapitals label
 label-back label h =
     let d = date-back (timeShape decimals) label h in
-    sym (d .0 ∙ ap (λ l. dateText (numberAt 0 4 label) (numberAt 5 2 label) (numberAt 8 2 label) ++ l) (time-back decimals (drop 10 label) (d .1)))
+    let year = numberAt 0 4 label in
+    let month = numberAt 5 2 label in
+    let day = numberAt 8 2 label in
+    sym (ap inCapitals (d .0) ∙ date-capital year month day (drop 10 label) ∙ ap (λ l. dateText year month day ++ l) (time-back decimals (drop 10 label) (d .1)))
 
--- reading an accepted label then writing gives the same bytes
-pub read-write : (label : List ℕ) (instant : ℤ) → readAnswer label ≡ value instant → instantLabel instant ≡ value label
+-- reading an accepted label then writing gives the same bytes, with t and z made capital
+pub read-write : (label : List ℕ) (instant : ℤ) → readAnswer label ≡ value instant → instantLabel instant ≡ value (inCapitals label)
 unfolding instantLabel numbersText
 read-write label instant e =
     let a = read-accepted label instant e in
@@ -149,7 +153,7 @@ label-bytes = refl
 year-inside : (label : List ℕ) → fits (dateShape ++ timeShape decimals) label ≡ true → outside firstYear lastYear (pos (numberAt 0 4 label)) ≡ false
 year-inside label h =
     let b = number-below (numberAt 0 4 label) 4 in
-    inside-pos 0 (natAbs lastYear) (numberAt 0 4 label) (omega arith) (omega (arith, ap (numberAt 0 4) (label-back label h)))
+    inside-pos 0 (natAbs lastYear) (numberAt 0 4 label) (omega arith) (omega (arith, ap (numberAt 0 4) (date-back (timeShape decimals) label h .0)))
 
 -- the refusals of fields, one after the other
 by-refusal :
@@ -170,7 +174,7 @@ join-refusal year month day hour minute second millisecond =
     (instantAt (dateOf year month day) (timeOfFields hour minute second millisecond))
 
 -- a label of the shape is refused with 2, 3 or 5 if it is refused
-shaped-refusal :
+pub shaped-refusal :
     {G : Type 0} (label : List ℕ) (n : ℕ) → fits (dateShape ++ timeShape decimals) label ≡ true → readFields label (drop 10 label) ≡ refused n →
     (n ≡ 2 → G) → (n ≡ 3 → G) → (n ≡ 5 → G) → G
 shaped-refusal label n h e =

@@ -9,8 +9,11 @@ pub mod Gaps
 pub mod Rooms
 pub mod Values
 pub mod ReadValues
+pub mod Thousandths
+pub mod TimesOfDay
 pub mod Shapes
 pub mod Reading
+pub mod LabelDates
 pub mod TimestampParts
 pub mod StampNumbers
 pub mod ClockWords
@@ -28,3 +31,4 @@ pub mod CueUsual
 pub mod ReadBack
 pub mod CueLaws
 pub mod Laws
+pub mod Capitals

@@ -1,20 +1,17 @@
 -- The numbers of a text, from the values of its bytes.
 use Prim.Native.Nat.{ℕ, zero, suc, _+_, _-_, _*_, _/_, _≤_, _<_, _^_}
 use mathlib.Core.Path.{_≡_, refl, sym, ap, ap₂, _∙_}
-use mathlib.Core.Bool.{Bool, true, false, cond}
-use mathlib.Core.List.{List, [], _∷_, _++_}
+use mathlib.Core.Bool.{Bool, true, false, cond, _&&_}
+use mathlib.Core.List.{List, [], _∷_}
 use native.Mathlib.Omega.{arith}
-use borrow.Author.Tests.{eqb-true}
-use lib.Dec.{eqb}
-use lib.ListN.{length, getD, take, replicate, length-replicate}
-use lib.Seq.{drop-cons, take-suc, take-length}
+use lib.ListN.{length, getD, take}
+use lib.Seq.{drop-cons}
 use Rattle.refusal.proofs.Outcomes.{clash}
-use Rattle.numbers.proofs.Bools.{and-left}
-use Rattle.labels.specs.Digits.{number, numberFrom, numberAt, isDigit, fitsOne, fits}
-use Rattle.labels.specs.Words.{word, byteOf, partOf, above, readValues, pairOf, numberOf}
+use Rattle.labels.specs.Digits.{number, numberAt, fits}
+use Rattle.labels.specs.Words.{word, byteOf, partOf, simple, OneWord, above, textOf, readValues, pairOf}
 use Rattle.labels.specs.declared.digits.Values.the-variants.{Read, Malformed}
 use Rattle.labels.proofs.Words.{AllLe, word-le, byte-at, part-length, part-at}
-use Rattle.labels.proofs.Gaps.{values-le}
+use Rattle.labels.proofs.Gaps.{all-near, near-nines}
 
 -- ---- pairs of values
 
@@ -51,32 +48,6 @@ pair-at (x ∷ xs) k a =
     ∙ ap (λ n. byteOf n k) (pairs-word x xs)
     ∙ byte-at (pairsOf (x ∷ xs)) k (pairs-le (x ∷ xs) a)
     ∙ pairs-at (x ∷ xs) k
-
--- ---- the number that some values make
-
-abbrev valuesFrom : (so-far : ℕ) → List ℕ → ℕ
-valuesFrom so-far [] = so-far
-valuesFrom so-far (x ∷ xs) = valuesFrom (so-far * 10 + x) xs
-
-one-more : (n : ℕ) (xs : List ℕ) (x : ℕ) → valuesFrom n (xs ++ x ∷ []) ≡ valuesFrom n xs * 10 + x
-one-more n [] x = refl
-one-more n (y ∷ xs) x = one-more (n * 10 + y) xs x
-
-first-values : (xs : List ℕ) (k : ℕ) → k ≤ length xs → AllLe 255 xs → numberOf (word xs) k ≡ valuesFrom 0 (take k xs)
-first-values xs zero h a = refl
-first-values xs (suc k) h a =
-    ap₂ (λ n b. n * 10 + b) (first-values xs k (omega arith) a) (byte-at xs k a) ∙ sym (ap (valuesFrom 0) (take-suc xs k 0 h) ∙ one-more 0 (take k xs) (getD xs k 0))
-
-all-values : (xs : List ℕ) {count : ℕ} → length xs ≡ count → AllLe 255 xs → numberOf (word xs) count ≡ valuesFrom 0 xs
-all-values xs e a = ap (numberOf (word xs)) (sym e) ∙ first-values xs (length xs) (omega arith) a ∙ ap (valuesFrom 0) (take-length xs)
-
--- the values of digits make their number
-digits-value : (n : ℕ) (text : List ℕ) {count : ℕ} → length text ≡ count → valuesFrom n (above (replicate count 48) text) ≡ numberFrom n text
-digits-value n text e = ap (λ count. valuesFrom n (above (replicate count 48) text)) (sym e) ∙ go n text
-  where
-    go : (n : ℕ) (text : List ℕ) → valuesFrom n (above (replicate (length text) 48) text) ≡ numberFrom n text
-    go n [] = refl
-    go n (b ∷ bs) = go (n * 10 + (b - 48)) bs
 
 -- ---- the numbers of a text
 
@@ -115,57 +86,52 @@ pub record ValuesRead (shape text : List ℕ) (v : ℕ) : Type 0 where
   pub shape-fits : fits shape text ≡ true
   pub small : v < 2 ^ 60
   pub pair-is : (k : ℕ) → suc k < length shape → length shape ≡ length text → getD shape k 0 ≡ 48 → getD shape (suc k) 0 ≡ 48 → pairOf v k ≡ numberAt k 2 text
+  pub pair-below : (k : ℕ) → pairOf v k < 100
   pub values-are : v ≡ word (above shape text)
 
-module _ (shape text : List ℕ) where
-  pub values-read : (v : ℕ) → length shape ≤ 8 → Read v ≡ readValues shape text → ValuesRead shape text v
-  values-read v short e = go (fits shape text) refl e
-    where
-      go : (t : Bool) → fits shape text ≡ t → Read v ≡ cond t (Read (word (above shape text))) Malformed → ValuesRead shape text v
-      go true f e =
-          let i : v ≡ word (above shape text) = cc in
-          let a = values-le shape text f in
-          record {
-            shape-fits = f;
-            small = omega (arith, i, word-le 9 (above shape text) 8 (omega (arith, above-length shape text)) a);
-            pair-is = λ k h l p q. ap (λ v. pairOf v k) i ∙ pair-at (above shape text) k a
-                ∙ ap₂ (λ x y. x * 10 + y)
-                (above-at shape text k (omega arith) (omega arith) ∙ ap (λ s. getD text k 0 - s) p)
-                (above-at shape text (suc k) (omega arith) (omega arith) ∙ ap (λ s. getD text (suc k) 0 - s) q)
-                ∙ sym (number-two text k (omega arith));
-            values-are = i;
-          }
-      go false f e = clash (cc)
+values-read : (shape text : List ℕ) (v : ℕ) → length shape ≤ 8 → simple shape ≡ true → fits shape text ≡ true → v ≡ word (above shape text) → ValuesRead shape text v
+values-read shape text v short p f i =
+    let a = near-nines shape (above shape text) (above-length shape text) (all-near shape text p f) in
+    let pair : (k : ℕ) → pairOf v k ≡ getD (above shape text) k 0 * 10 + getD (above shape text) (suc k) 0 = λ k. ap (λ v. pairOf v k) i ∙ pair-at (above shape text) k a in
+    record {
+      shape-fits = f;
+      small = omega (arith, i, word-le 9 (above shape text) 8 (omega (arith, above-length shape text)) a);
+      pair-is = λ k h l p q. pair k
+          ∙ ap₂ (λ x y. x * 10 + y)
+          (above-at shape text k (omega arith) (omega arith) ∙ ap (λ s. getD text k 0 - s) p)
+          (above-at shape text (suc k) (omega arith) (omega arith) ∙ ap (λ s. getD text (suc k) 0 - s) q)
+          ∙ sym (number-two text k (omega arith));
+      pair-below = λ k. omega (arith, pair k, at-le (above shape text) k a, at-le (above shape text) (suc k) a);
+      values-are = i;
+    }
+  where
+    at-le : (l : List ℕ) (k : ℕ) → AllLe 9 l → getD l k 0 ≤ 9
+    at-le [] k a = omega arith
+    at-le (x ∷ l) zero a = a .0
+    at-le (x ∷ l) (suc k) a = at-le l k (a .1)
 
-  pub values-malformed : Malformed ≡ readValues shape text → fits shape text ≡ false
-  values-malformed e = go (fits shape text) e
+-- two numbers against two shapes, and the texts that the numbers are
+module _ (shape : List ℕ) (m : ℕ) (other : List ℕ) (n : ℕ) where
+  pub both-read :
+      (v w : ℕ) → OneWord shape m → OneWord other n → Read v w ≡ readValues shape m other n → ValuesRead shape (textOf shape m) v × ValuesRead other (textOf other n) w
+  both-read v w p q e = go (fits shape (textOf shape m)) (fits other (textOf other n)) refl refl e
     where
-      go : (t : Bool) → Malformed ≡ cond t (Read (word (above shape text))) Malformed → t ≡ false
+      go : (a b : Bool) → fits shape (textOf shape m) ≡ a → fits other (textOf other n) ≡ b →
+          Read v w ≡ cond (a && b) (Read (word (above shape (textOf shape m))) (word (above other (textOf other n)))) Malformed →
+          ValuesRead shape (textOf shape m) v × ValuesRead other (textOf other n) w
+      go true true f g e =
+          let i : v ≡ word (above shape (textOf shape m)) = cc in
+          let j : w ≡ word (above other (textOf other n)) = cc in
+          (values-read shape (textOf shape m) v (p .0) (p .1 .0) f i, values-read other (textOf other n) w (q .0) (q .1 .0) g j)
+      go true false f g e = clash (cc)
+      go false b f g e = clash (cc)
+
+  pub none-read : Malformed ≡ readValues shape m other n → fits shape (textOf shape m) && fits other (textOf other n) ≡ false
+  none-read e = go (fits shape (textOf shape m) && fits other (textOf other n)) e
+    where
+      go : (t : Bool) → Malformed ≡ cond t (Read (word (above shape (textOf shape m))) (word (above other (textOf other n)))) Malformed → t ≡ false
       go true e = clash (cc)
       go false e = refl
-
--- the number of the digits behind a mark, whose value is 0
-pub mark-number :
-    (mark byte count : ℕ) (text : List ℕ) {v : ℕ} → eqb mark 48 ≡ false → length text ≡ count → ValuesRead (mark ∷ replicate count 48) (byte ∷ text) v →
-    numberOf v (suc count) ≡ number text
-mark-number mark byte count text m l r =
-    let f = r .shape-fits in
-    let e : byte - mark ≡ 0 = omega (arith, eqb-true byte mark (sym (ap (λ d. cond d (isDigit byte) (eqb byte mark)) m) ∙ and-left (fitsOne mark byte) _ f)) in
-    let xs = above (mark ∷ replicate count 48) (byte ∷ text) in
-    ap (λ v. numberOf v (suc count)) (r .values-are)
-    ∙ all-values xs (ap suc (above-size (replicate count 48) text (omega (arith, length-replicate {A = ℕ} count 48)) ∙ l)) (lower xs (values-le (mark ∷ replicate count 48) (byte ∷ text) f))
-    ∙ ap (λ x. valuesFrom (0 * 10 + x) (above (replicate count 48) text)) e
-    ∙ digits-value 0 text l
-  where
-    above-size : (shape text : List ℕ) → length shape ≡ length text → length (above shape text) ≡ length text
-    above-size [] [] e = refl
-    above-size [] (b ∷ bs) e = absurd (omega arith)
-    above-size (s ∷ ss) [] e = absurd (omega arith)
-    above-size (s ∷ ss) (b ∷ bs) e = ap suc (above-size ss bs (omega arith))
-
-    lower : (xs : List ℕ) → AllLe 9 xs → AllLe 255 xs
-    lower [] a = tt
-    lower (x ∷ xs) a = let h = a .0 in (omega arith, lower xs (a .1))
 
 -- two digits of a part of a text
 pub part-number : (text : List ℕ) (size from at : ℕ) → at + 2 ≤ size → from + size ≤ length text → numberAt at 2 (partOf from size text) ≡ numberAt (from + at) 2 text

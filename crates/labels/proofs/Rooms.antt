@@ -1,18 +1,18 @@
 -- Bytes of a text against those of a shape, each raised by a room that leaves its highest bit clear exactly if the byte is right.
-use Prim.Native.Nat.{ℕ, zero, suc, _+_, _*_, _/_, _%_, _≤_, _<_, _^_}
+use Prim.Native.Nat.{ℕ, zero, suc, _+_, _-_, _*_, _/_, _%_, _≤_, _<_, _^_}
 use mathlib.Core.Path.{_≡_, refl, sym, ap, ap₂, _∙_}
-use mathlib.Core.Bool.{true, false, cond, _&&_}
+use mathlib.Core.Bool.{Bool, true, false, cond}
 use mathlib.Core.List.{List, [], _∷_}
 use native.Mathlib.Omega.{arith}
 use lib.Bits.{bitAnd, bitOr, bitXor, and-block, and-high, and-zero-l, and-le-l, and-le-r, or-add-and, xor-lt}
 use lib.Dec.{eqb, lit<}
-use lib.ListN.{length, replicate}
+use lib.ListN.{length, getD, replicate}
 use Rattle.numbers.proofs.Bools.{no-both, and-left, and-right}
 use Rattle.labels.specs.Digits.{fitsOne, fits}
-use Rattle.labels.specs.Words.{word, above}
+use Rattle.labels.specs.Words.{word, simple, roomOne, rooms}
 use Rattle.labels.proofs.Words.{AllLe, word-le}
-use Rattle.labels.proofs.OneByte.{value-le, value-near, near-fits}
-use Rattle.labels.proofs.Gaps.{gaps, Both, rest-both, word-gaps, no-part}
+use Rattle.labels.proofs.OneByte.{value-near}
+use Rattle.labels.proofs.Gaps.{gaps, Both, word-gaps, simple-low, simple-first, simple-rest, AllNear, near-nines, no-part}
 
 -- ---- the highest bits of bytes
 
@@ -88,7 +88,7 @@ gaps-low (s ∷ ss) (x ∷ xs) a b =
     let k : s < 128 = omega (arith, a .0) in
     (omega (arith, xor-lt 7 x s h k), gaps-low ss xs (a .1) (b .1))
 
-gaps-size : (shape text : List ℕ) → length shape ≡ length text → length (gaps shape text) ≡ length text
+pub gaps-size : (shape text : List ℕ) → length shape ≡ length text → length (gaps shape text) ≡ length text
 gaps-size [] [] e = refl
 gaps-size [] (x ∷ xs) e = absurd (omega arith)
 gaps-size (s ∷ ss) [] e = refl
@@ -135,31 +135,46 @@ module _ {shape rooms text : List ℕ} {n : ℕ} (h : Held shape rooms text n) w
   pub room-clear : AllLe 127 (raised rooms (gaps shape text)) → bitAnd (bitXor n (word shape) + word rooms) highest ≡ 0
   room-clear a = ap (λ s. bitAnd s highest) sum-word ∙ low-clear (raised rooms (gaps shape text)) 8 few a
 
--- ---- a text that fits
+-- ---- a text that fits a shape without letters
 
--- the values of digits, and 0 at marks
-abbrev pub AllNear : (shape l : List ℕ) → Type 0
-AllNear [] l = Unit {0}
-AllNear (s ∷ ss) [] = Unit {0}
-AllNear (s ∷ ss) (x ∷ l) = (x ≤ cond (eqb s 48) 9 0) × AllNear ss l
+pub fits-low : (shape text : List ℕ) → simple shape ≡ true → fits shape text ≡ true → AllLe 127 text
+fits-low [] [] p f = tt
+fits-low [] (b ∷ bs) p f = no-both false f refl
+fits-low (s ∷ ss) [] p f = no-both false f refl
+fits-low (s ∷ ss) (b ∷ bs) p f =
+    let h = simple-low (s ∷ ss) p .0 in
+    let k = near-nines (s ∷ []) ((b - s) ∷ []) (omega arith) (value-near s b (simple-first s ss p) (and-left (fitsOne s b) (fits ss bs) f), tt) .0 in
+    (omega arith, fits-low ss bs (simple-rest s ss p) (and-right (fitsOne s b) (fits ss bs) f))
 
-pub all-near : (shape text : List ℕ) → fits shape text ≡ true → AllNear shape (above shape text)
-all-near [] text f = tt
-all-near (s ∷ ss) [] f = tt
-all-near (s ∷ ss) (b ∷ bs) f = (value-near s b (and-left (fitsOne s b) (fits ss bs) f), all-near ss bs (and-right (fitsOne s b) (fits ss bs) f))
+pub room-at : (shape : List ℕ) (i : ℕ) → i < length shape → getD (rooms shape) i 0 ≡ roomOne (getD shape i 0)
+room-at [] i h = absurd (omega arith)
+room-at (s ∷ ss) zero h = refl
+room-at (s ∷ ss) (suc i) h = room-at ss i (omega arith)
 
-pub near-all-fit : (shape text : List ℕ) → Both shape text → AllNear shape (gaps shape text) → fits shape text ≡ true
-near-all-fit [] [] h n = refl
-near-all-fit [] (b ∷ bs) h n = absurd (omega (arith, h .0))
-near-all-fit (s ∷ ss) [] h n = absurd (omega (arith, h .0))
-near-all-fit (s ∷ ss) (b ∷ bs) h n =
-    ap₂ _&&_ (near-fits s b (h .1 .0 .0) (h .1 .1 .0) (n .0)) (near-all-fit ss bs (rest-both s b ss bs h) (n .1))
+-- the room of each byte of a shape: values are near exactly if none is raised above 127
+pub rooms-le : (shape : List ℕ) → AllLe 127 (rooms shape)
+rooms-le [] = tt
+rooms-le (s ∷ ss) = (go (eqb s 48), rooms-le ss)
+  where
+    go : (d : Bool) → cond d 118 127 ≤ 127
+    go true = omega arith
+    go false = omega arith
 
-pub fits-low : (shape text : List ℕ) → AllLe 118 shape → fits shape text ≡ true → AllLe 127 text
-fits-low [] [] a f = tt
-fits-low [] (b ∷ bs) a f = no-both false f refl
-fits-low (s ∷ ss) [] a f = no-both false f refl
-fits-low (s ∷ ss) (b ∷ bs) a f =
-    let h = a .0 in
-    let k = value-le s b (and-left (fitsOne s b) (fits ss bs) f) in
-    (omega arith, fits-low ss bs (a .1) (and-right (fitsOne s b) (fits ss bs) f))
+pub near-roomy : (shape l : List ℕ) → length shape ≡ length l → AllNear shape l → AllLe 127 (raised (rooms shape) l)
+near-roomy [] [] e n = tt
+near-roomy [] (x ∷ l) e n = absurd (omega arith)
+near-roomy (s ∷ ss) [] e n = tt
+near-roomy (s ∷ ss) (x ∷ l) e n = (go (eqb s 48) (n .0), near-roomy ss l (omega arith) (n .1))
+  where
+    go : (d : Bool) → x ≤ cond d 9 0 → x + cond d 118 127 ≤ 127
+    go true h = omega arith
+    go false h = omega arith
+
+pub roomy-near : (shape l : List ℕ) → AllLe 127 (raised (rooms shape) l) → AllNear shape l
+roomy-near [] l a = tt
+roomy-near (s ∷ ss) [] a = tt
+roomy-near (s ∷ ss) (x ∷ l) a = (go (eqb s 48) (a .0), roomy-near ss l (a .1))
+  where
+    go : (d : Bool) → x + cond d 118 127 ≤ 127 → x ≤ cond d 9 0
+    go true h = omega arith
+    go false h = omega arith

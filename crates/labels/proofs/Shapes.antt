@@ -1,14 +1,15 @@
 -- Texts of one shape.
 use Prim.Native.Nat.{ℕ, zero, suc, _+_, _/_, _%_}
 use mathlib.Core.Path.{_≡_, refl, sym, ap, ap₂, _∙_}
-use mathlib.Core.Bool.{true, false, _&&_, and-false, and-assoc}
+use mathlib.Core.Bool.{Bool, true, false, _&&_, _||_, and-false, and-assoc}
 use mathlib.Core.List.{List, [], _∷_, _++_}
 use borrow.Author.Tests.{eqb-true}
 use lib.Dec.{eqb}
 use lib.ListN.{length, take, drop, replicate, take-append-drop}
 use lib.Seq.{drop-drop}
 use Rattle.numbers.proofs.Bools.{no-both, and-left, and-right}
-use Rattle.labels.specs.Digits.{digits, number, isDigit, fitsOne, fits}
+use Rattle.labels.specs.Digits.{digits, number, isDigit, letterT, letterZ, hasSmall, small, fitsOne, fits}
+use Rattle.labels.specs.Capitals.{capital, inCapitals}
 use Rattle.labels.specs.Words.{partOf}
 use Rattle.labels.specs.Stamps.{allDigits}
 use Rattle.labels.proofs.Decimal.{is-digit, digits-number, length-digits}
@@ -31,6 +32,42 @@ fits-append (s ∷ a) b (x ∷ text) = ap (λ t. fitsOne s x && t) (fits-append 
 pub fits-from :
     (shape more text : List ℕ) (i : ℕ) → fits (shape ++ more) (drop i text) ≡ fits shape (partOf i (length shape) text) && fits more (drop (i + length shape) text)
 fits-from shape more text i = fits-append shape more (drop i text) ∙ ap (λ l. fits shape (partOf i (length shape) text) && fits more l) (drop-drop (length shape) i text)
+
+-- a shape of three parts, in two that have the second in common
+pub fits-overlap :
+    (a b c text : List ℕ) → fits (a ++ (b ++ c)) text ≡ fits (a ++ b) (take (length (a ++ b)) text) && fits (b ++ c) (drop (length a) text)
+fits-overlap a b c text =
+    let rest = drop (length a) text in
+    fits-append a (b ++ c) text
+    ∙ ap (λ t. fits a (take (length a) text) && t) (again (fits (b ++ c) rest) (fits b (take (length b) rest)) (fits c (drop (length b) rest)) (fits-append b c rest))
+    ∙ sym (and-assoc (fits a (take (length a) text)) _ _)
+    ∙ ap (λ t. t && fits (b ++ c) (drop (length a) text)) (sym (front a text))
+  where
+    again : (x y z : Bool) → x ≡ y && z → x ≡ y && x
+    again x true z e = refl
+    again x false z e = e
+
+    front : (a text : List ℕ) → fits (a ++ b) (take (length (a ++ b)) text) ≡ fits a (take (length a) text) && fits b (take (length b) (drop (length a) text))
+    front [] text = refl
+    front (s ∷ a) [] = refl
+    front (s ∷ a) (x ∷ text) = ap (λ t. fitsOne s x && t) (front a text) ∙ sym (and-assoc (fitsOne s x) _ _)
+
+-- ---- letters
+
+-- the capital of what fits a letter is the letter
+pub capital-letter : (letter byte : ℕ) → hasSmall letter ≡ true → fitsOne letter byte ≡ true → capital byte ≡ letter
+capital-letter letter byte two = go (eqb letter letterT) refl two
+  where
+    of : (letter : ℕ) → capital (small letter) ≡ letter → capital letter ≡ letter → (eqb byte (small letter) || eqb byte letter) ≡ true → capital byte ≡ letter
+    of letter c d = by (eqb byte (small letter)) refl
+      where
+        by : (t : Bool) → eqb byte (small letter) ≡ t → (t || eqb byte letter) ≡ true → capital byte ≡ letter
+        by true e h = ap capital (eqb-true byte (small letter) e) ∙ c
+        by false e h = ap capital (eqb-true byte letter h) ∙ d
+
+    go : (t : Bool) → eqb letter letterT ≡ t → (t || eqb letter letterZ) ≡ true → fitsOne letter byte ≡ true → capital byte ≡ letter
+    go true e h f = let l = eqb-true letter letterT e in of letterT refl refl (ap (λ l. fitsOne l byte) (sym l) ∙ f) ∙ sym l
+    go false e h f = let l = eqb-true letter letterZ h in of letterZ refl refl (ap (λ l. fitsOne l byte) (sym l) ∙ f) ∙ sym l
 
 -- ---- a shape of digits
 
@@ -62,17 +99,30 @@ module _ (text : List ℕ) (i : ℕ) (shape : List ℕ) where
       let e : drop count (drop i text) ≡ drop (i + count) text = drop-drop count i text in
       (sym (take-append-drop count (drop i text)) ∙ ap₂ _++_ (sym d) e, sym (ap (fits shape) e) ∙ and-right (fits (digits 0 count) (take count (drop i text))) _ f)
 
+  -- a mark of one byte, and a letter, of which only the capital can be told
   pub mark-front :
-      (mark : ℕ) → eqb mark 48 ≡ false → fits (mark ∷ shape) (drop i text) ≡ true →
+      (mark : ℕ) → eqb mark 48 ≡ false → hasSmall mark ≡ false → fits (mark ∷ shape) (drop i text) ≡ true →
       (drop i text ≡ mark ∷ drop (i + 1) text) × (fits shape (drop (i + 1) text) ≡ true)
-  mark-front mark m h = go (drop i text) refl h
+  mark-front mark m one h = go (drop i text) refl h
     where
       go : (l : List ℕ) → drop i text ≡ l → fits (mark ∷ shape) l ≡ true → (l ≡ mark ∷ drop (i + 1) text) × (fits shape (drop (i + 1) text) ≡ true)
       go [] e h = no-both false h refl
       go (b ∷ bs) e h =
           let r : drop (i + 1) text ≡ bs = sym (drop-drop 1 i text) ∙ ap (drop 1) e in
-          let f = rw m at h in
+          let f = rw (m, one) at h in
           (ap₂ _∷_ (eqb-true b mark (and-left (eqb b mark) (fits shape bs) f)) (sym r), ap (fits shape) r ∙ and-right (eqb b mark) (fits shape bs) f)
+
+  pub letter-front :
+      (letter : ℕ) → hasSmall letter ≡ true → fits (letter ∷ shape) (drop i text) ≡ true →
+      (inCapitals (drop i text) ≡ letter ∷ inCapitals (drop (i + 1) text)) × (fits shape (drop (i + 1) text) ≡ true)
+  letter-front letter two h = go (drop i text) refl h
+    where
+      go : (l : List ℕ) → drop i text ≡ l → fits (letter ∷ shape) l ≡ true →
+          (inCapitals l ≡ letter ∷ inCapitals (drop (i + 1) text)) × (fits shape (drop (i + 1) text) ≡ true)
+      go [] e h = no-both false h refl
+      go (b ∷ bs) e h =
+          let r : drop (i + 1) text ≡ bs = sym (drop-drop 1 i text) ∙ ap (drop 1) e in
+          (ap₂ _∷_ (capital-letter letter b two (and-left (fitsOne letter b) (fits shape bs) h)) (ap inCapitals (sym r)), ap (fits shape) r ∙ and-right (fitsOne letter b) (fits shape bs) h)
 
 -- ---- texts that fit
 

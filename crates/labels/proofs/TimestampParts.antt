@@ -48,9 +48,9 @@ clock-parts text h =
     let f = and-left (fits (clockText 3 0 0 0) text) _ h in
     let t = and-right (fits (clockText 3 0 0 0) text) _ h in
     let m = digits-front text 0 (colon ∷ digits 0 2 ++ point ∷ digits 0 3) 2 f in
-    let a = mark-front text 2 (digits 0 2 ++ point ∷ digits 0 3) colon refl (m .1) in
+    let a = mark-front text 2 (digits 0 2 ++ point ∷ digits 0 3) colon refl refl (m .1) in
     let s = digits-front text 3 (point ∷ digits 0 3) 2 (a .1) in
-    let p = mark-front text 5 (digits 0 3) point refl (s .1) in
+    let p = mark-front text 5 (digits 0 3) point refl refl (s .1) in
     let k = digits-front text 6 [] 3 (p .1) in
     let e : text ≡ clockText 3 (numberAt 0 2 text) (numberAt 3 2 text) (numberAt 6 3 text) =
     m .0 ∙ ap (λ l. digits (numberAt 0 2 text) 2 ++ l)
@@ -68,7 +68,7 @@ pub hours-text : (front : List ℕ) → areHours front ≡ true → front ≡ di
 hours-text front h =
     let n = length front - 1 in
     let f = digits-front front 0 (colon ∷ []) n (and-right (leb 2 n) _ h) in
-    let a = mark-front front (0 + n) [] colon refl (f .1) in
+    let a = mark-front front (0 + n) [] colon refl refl (f .1) in
     f .0 ∙ ap (λ l. digits (hoursValue front) n ++ l) (a .0 ∙ ap (λ l. colon ∷ l) (fits-nothing (drop (0 + n + 1) front) (a .1)))
 
 module _ (front : List ℕ) (h : (eqb (length front) 0 || areHours front) ≡ true) where

@@ -1,87 +1,96 @@
--- The two tests of the code together find out whether a text has a shape.
+-- The two tests of the code together find out whether two texts have their shapes.
 use Prim.Native.Nat.{ℕ, _+_, _≤_, _<_, _^_}
-use mathlib.Core.Path.{_≡_, refl, sym, ap, ap₂, _∙_}
-use mathlib.Core.Bool.{Bool, true, false, cond}
+use mathlib.Core.Path.{_≡_, refl, sym, ap, ap₂, _∙_, subst}
+use mathlib.Core.Bool.{Bool, true, false, cond, _&&_}
 use mathlib.Core.List.{List, [], _∷_}
 use native.Mathlib.Omega.{arith}
-use lib.Bits.{bitAnd, bitXor}
-use lib.ListN.{length, getD, replicate}
-use mir.Syntax.{w8}
-use mir.Val.{Fits}
+use lib.Bits.{bitAnd, bitOr, bitXor}
+use lib.ListN.{length, length-map}
+use Rattle.numbers.proofs.Bools.{and-left, and-right}
 use Rattle.labels.specs.Digits.{fits}
-use Rattle.labels.specs.Words.{word, partOf, mask, above, readValues}
+use Rattle.labels.specs.Words.{word, bytesOf, simple, roomOne, rooms, OneWord, above, textOf, readValues}
 use Rattle.labels.specs.declared.digits.Values.the-variants.{Read, Malformed}
-use Rattle.labels.proofs.Words.{bytes, word-le, part-length, part-whole, part-le}
-use Rattle.labels.proofs.Gaps.{Both, gaps, word-gaps, values-le, AllFit, all-fit, AllSettled, all-settle, nines-high, high-nines}
+use Rattle.labels.proofs.Words.{AllLe, length-bytes, bytes-le, word-bytes}
+use Rattle.labels.proofs.Gaps.{gaps, simple-low, AllNear, all-near, gaps-are, near-all-fit}
+use Rattle.labels.proofs.Rooms.{highest, Held, raised, or-none, low-text, text-clear, gap-word, gaps-size, sum-below, roomy, room-clear, fits-low, rooms-le, near-roomy, roomy-near}
 
--- 6 in each of eight bytes, and the high four bits of each
-abbrev pub sixes : ℕ
-sixes = word (replicate 8 6)
+lower : (low high : ℕ) (l : List ℕ) → low ≤ high → AllLe low l → AllLe high l
+lower low high [] h a = tt
+lower low high (x ∷ l) h a = let k = a .0 in (omega arith, lower low high l h (a .1))
 
-abbrev pub high-bits : ℕ
-high-bits = word (replicate 8 240)
+-- ---- one text
 
-gaps-length : (shape text : List ℕ) → length (gaps shape text) ≤ length shape
-gaps-length [] text = omega arith
-gaps-length (s ∷ ss) [] = omega arith
-gaps-length (s ∷ ss) (b ∷ bs) = let h = gaps-length ss bs in omega arith
+module _ (shape : List ℕ) (n : ℕ) (w : OneWord shape n) where
+  abbrev text : List ℕ
+  text = textOf shape n
 
--- v is the number of where a text and its shape differ, and m that of the bits that the shape settles
-pub record Compared (shape text : List ℕ) (v m : ℕ) : Type 0 where
-  pub sizes : Both shape text
-  pub short : length shape ≤ 8
-  pub as-gaps : v ≡ word (gaps shape text)
-  pub m-is : m ≡ mask shape
+  size : length text ≡ length shape
+  size = length-bytes (length shape) n
 
--- from the numbers that the code makes of a shape and of a part of a text
-pub compare :
-    (shape text : List ℕ) (at : ℕ) → (length shape ≤ 8) × (at + length shape ≤ length text) → ((i : ℕ) → Fits w8 (getD shape i 0)) →
-    ((i : ℕ) → Fits w8 (getD text i 0)) → {a b m : ℕ} → a ≡ word (partOf at (length shape) text) → b ≡ word (partOf 0 (length shape) shape) →
-    m ≡ mask shape → Compared shape (partOf at (length shape) text) (bitXor a b) m
-compare shape text at lengths shape-bytes text-bytes a b m =
-    let part = partOf at (length shape) text in
-    let both : Both shape part = (sym (part-length at (length shape) text (lengths .1)), (bytes shape shape-bytes, part-le 255 at (length shape) text (bytes text text-bytes))) in
-    record {
-      sizes = both;
-      short = lengths .0;
-      as-gaps = ap₂ bitXor a (b ∙ ap word (part-whole shape)) ∙ word-gaps shape part both;
-      m-is = m;
-    }
+  held : Held shape (rooms shape) text n
+  held = record {
+    is-text = sym (word-bytes (length shape) n (w .1 .1));
+    both = (sym size, (lower 118 255 shape (omega arith) (simple-low shape (w .1 .0)), bytes-le (length shape) n));
+    short = omega (arith, size, w .0);
+    shape-low = lower 118 127 shape (omega arith) (simple-low shape (w .1 .0));
+    rooms-low = rooms-le shape;
+    rooms-size = length-map shape roomOne ∙ sym size;
+  }
 
-module _ {shape text : List ℕ} {v m : ℕ} (w : Compared shape text v m) where
-  few : length (gaps shape text) ≤ 8
-  few = omega (arith, gaps-length shape text, w .short)
+  -- the number that each byte of the text is raised in
+  abbrev sum : ℕ
+  sum = bitXor n (word shape) + word (rooms shape)
 
-  unless : (fits shape text ≡ true → ⊥) → Malformed ≡ readValues shape text
-  unless never = go (fits shape text) refl
+  pub sum-small : {a b : ℕ} → a ≡ word shape → b ≡ word (rooms shape) → bitAnd n highest ≡ 0 → bitXor n a + b < 2 ^ 64
+  sum-small p q e = subst (λ n. n < 2 ^ 64) (sym (ap₂ (λ a b. bitXor n a + b) p q)) (sum-below held (low-text held e))
+
+  pub value-is : fits shape text ≡ true → bitXor n (word shape) ≡ word (above shape text)
+  value-is f = gap-word held ∙ ap word (gaps-are shape text (w .1 .0) f)
+
+  clear-bytes : fits shape text ≡ true → bitAnd n highest ≡ 0
+  clear-bytes f = text-clear held (fits-low shape text (w .1 .0) f)
+
+  clear-sum : fits shape text ≡ true → bitAnd sum highest ≡ 0
+  clear-sum f =
+      let p = w .1 .0 in
+      room-clear held
+      (near-roomy shape (gaps shape text) (sym (gaps-size shape text (sym size) ∙ size)) (subst (AllNear shape) (sym (gaps-are shape text p f)) (all-near shape text p f)))
+
+  fits-if : bitAnd n highest ≡ 0 → bitAnd sum highest ≡ 0 → fits shape text ≡ true
+  fits-if e f = near-all-fit shape text (w .1 .0) (sym size) (roomy-near shape (gaps shape text) (roomy held (low-text held e) f))
+
+-- ---- two texts
+
+module _ (shape : List ℕ) (m : ℕ) (other : List ℕ) (n : ℕ) (v : OneWord shape m) (w : OneWord other n) where
+  unless : (fits shape (textOf shape m) ≡ true → fits other (textOf other n) ≡ true → ⊥) → Malformed ≡ readValues shape m other n
+  unless never = go (fits shape (textOf shape m)) (fits other (textOf other n)) refl refl
     where
-      go : (t : Bool) → fits shape text ≡ t → Malformed ≡ cond t (Read (word (above shape text))) Malformed
-      go true e = absurd (never e)
-      go false e = refl
+      go : (a b : Bool) → fits shape (textOf shape m) ≡ a → fits other (textOf other n) ≡ b →
+          Malformed ≡ cond (a && b) (Read (word (above shape (textOf shape m))) (word (above other (textOf other n)))) Malformed
+      go true true e f = absurd (never e f)
+      go true false e f = refl
+      go false b e f = refl
 
-  all-clear : bitAnd v m ≡ 0 → AllSettled shape text
-  all-clear e = all-settle shape text (w .sizes) (sym (ap₂ bitAnd (w .as-gaps) (w .m-is)) ∙ e)
+  pub high-byte : (bitOr (bitAnd m highest) (bitAnd n highest) ≡ 0 → ⊥) → Malformed ≡ readValues shape m other n
+  high-byte never = unless (λ f g. never (ap₂ bitOr (clear-bytes shape m v f) (clear-bytes other n w g)))
 
-  pub unsettled : (bitAnd v m ≡ 0 → ⊥) → Malformed ≡ readValues shape text
-  unsettled never = unless (λ f. never (ap₂ bitAnd (w .as-gaps) (w .m-is) ∙ all-fit shape text (w .sizes) f .all-settled))
+  -- the code has made the numbers of the shapes and of their rooms
+  module _ {a b x y : ℕ} (ea : a ≡ word shape) (eb : b ≡ word other) (ex : x ≡ word (rooms shape)) (ey : y ≡ word (rooms other)) where
+    abbrev both-sums : ℕ
+    both-sums = bitOr (bitAnd (bitXor m a + x) highest) (bitAnd (bitXor n b + y) highest)
 
-  pub gaps-small : bitAnd v m ≡ 0 → v < 2 ^ 60
-  gaps-small e = omega (arith, w .as-gaps, word-le 15 (gaps shape text) 8 few (all-clear e .gaps-le))
+    sums-are : both-sums ≡ bitOr (bitAnd (sum shape m v) highest) (bitAnd (sum other n w) highest)
+    sums-are = λ i. bitOr (bitAnd (bitXor m (ea i) + ex i) highest) (bitAnd (bitXor n (eb i) + ey i) highest)
 
-  pub no-digits : (bitAnd (v + sixes) high-bits ≡ 0 → ⊥) → Malformed ≡ readValues shape text
-  no-digits never =
-      unless (λ f.
-      let r = all-fit shape text (w .sizes) f in
-      never (ap (λ v. bitAnd (v + sixes) high-bits) (w .as-gaps ∙ ap word (r .gaps-are)) ∙ nines-high (above shape text) 8 (few-above r) (values-le shape text f)))
-    where
-      few-above : AllFit shape text → length (above shape text) ≤ 8
-      few-above r = omega (arith, few, ap length (r .gaps-are))
+    pub no-room : (both-sums ≡ 0 → ⊥) → Malformed ≡ readValues shape m other n
+    no-room never = unless (λ f g. never (sums-are ∙ ap₂ bitOr (clear-sum shape m v f) (clear-sum other n w g)))
 
-  pub all-digits :
-      bitAnd v m ≡ 0 → bitAnd (v + sixes) high-bits ≡ 0 → Read v ≡ readValues shape text
-  all-digits e z =
-      let s = all-clear e in
-      let n = high-nines (gaps shape text) 8 few (s .gaps-le) (sym (ap (λ v. bitAnd (v + sixes) high-bits) (w .as-gaps)) ∙ z) in
-      let f = s .fit-if n in
-      let r = all-fit shape text (w .sizes) f in
-      ap Read (w .as-gaps ∙ ap word (r .gaps-are)) ∙ sym (ap (λ t. cond t (Read (word (above shape text))) Malformed) f)
+    pub all-right : bitOr (bitAnd m highest) (bitAnd n highest) ≡ 0 → both-sums ≡ 0 → Read (bitXor m a) (bitXor n b) ≡ readValues shape m other n
+    all-right e s =
+        let c = or-none (bitAnd m highest) (bitAnd n highest) e in
+        let d = or-none (bitAnd (sum shape m v) highest) (bitAnd (sum other n w) highest) (sym sums-are ∙ s) in
+        let f = fits-if shape m v (c .0) (d .0) in
+        let g = fits-if other n w (c .1) (d .1) in
+        ap₂ (λ a b. Read (bitXor m a) (bitXor n b)) ea eb
+        ∙ ap₂ Read (value-is shape m v f) (value-is other n w g)
+        ∙ sym (ap (λ t. cond t (Read (word (above shape (textOf shape m))) (word (above other (textOf other n)))) Malformed) (ap₂ _&&_ f g))

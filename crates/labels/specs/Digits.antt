@@ -1,6 +1,6 @@
 -- Decimal digits as bytes, and texts of one shape. 48 is the byte of the digit 0, and 57 that of 9.
 use Prim.Native.Nat.{ℕ, zero, suc, _+_, _-_, _*_, _/_, _%_}
-use mathlib.Core.Bool.{Bool, true, false, cond, _&&_}
+use mathlib.Core.Bool.{Bool, true, false, cond, _&&_, _||_}
 use mathlib.Core.List.{List, [], _∷_, _++_}
 use lib.Dec.{eqb, leb}
 use lib.ListN.{take, drop}
@@ -27,9 +27,28 @@ numberAt at count text = number (take count (drop at text))
 abbrev pub isDigit : ℕ → Bool
 isDigit byte = leb 48 byte && leb byte 57
 
--- a digit where the shape has the digit 0, and the same byte where it has another
+-- the letters T and Z
+abbrev pub letterT : ℕ
+letterT = 84
+
+abbrev pub letterZ : ℕ
+letterZ = 90
+
+-- the marks that may be one of two bytes: document 02, request Three, "T and Z may be written small"
+abbrev pub hasSmall : (mark : ℕ) → Bool
+hasSmall mark = eqb mark letterT || eqb mark letterZ
+
+-- the small letter of a capital
+abbrev pub small : (capital : ℕ) → ℕ
+small capital = capital + 32
+
+-- a mark as it is, or small where it may be
+abbrev pub isMark : (mark byte : ℕ) → Bool
+isMark mark byte = (hasSmall mark && eqb byte (small mark)) || eqb byte mark
+
+-- a digit where the shape has the digit 0, and the mark where it has another byte
 abbrev pub fitsOne : (shape byte : ℕ) → Bool
-fitsOne shape byte = cond (eqb shape 48) (isDigit byte) (eqb byte shape)
+fitsOne shape byte = cond (eqb shape 48) (isDigit byte) (isMark shape byte)
 
 -- a text as long as the shape, each byte of which fits
 abbrev pub fits : (shape text : List ℕ) → Bool

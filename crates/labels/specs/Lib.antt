@@ -2,6 +2,7 @@
 pub mod Digits
 pub mod Clock
 pub mod Rfc3339
+pub mod Capitals
 pub mod Webvtt
 pub mod Written
 pub mod Timestamps

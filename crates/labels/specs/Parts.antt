@@ -9,7 +9,7 @@ use Rattle.numbers.specs.Range.{outside}
 use Rattle.instant.specs.Answers.{joinAnswer}
 use Rattle.instant.specs.declared.Fields.{Fields}
 use Rattle.labels.specs.Digits.{numberAt, fits}
-use Rattle.labels.specs.Words.{pairOf}
+use Rattle.labels.specs.Words.{pairOf, numberOf}
 use Rattle.labels.specs.Rfc3339.{decimals, timeShape}
 
 -- a whole number that some digits can be
@@ -41,12 +41,16 @@ abbrev pub joined : (year month day hour minute second fraction : ℕ) → Outco
 joined year month day hour minute second fraction =
     joinAnswer (pos year) (pos month) (pos day) (pos hour) (pos minute) (pos second) (pos fraction)
 
--- the instant of a date, of the values of `HH:MM:SS` and of the decimals
-abbrev pub joinedValues : (year month day toSecond fraction : ℕ) → Outcome ℤ
-joinedValues year month day toSecond fraction = joined year month day (pairOf toSecond 0) (pairOf toSecond 3) (pairOf toSecond 6) fraction
+-- the instant of a date, and of the values of `HH:MM:SS` and of `.mmm`
+abbrev pub joinedValues : (year month day clock fraction : ℕ) → Outcome ℤ
+joinedValues year month day clock fraction = joined year month day (pairOf clock 0) (pairOf clock 3) (pairOf clock 6) (numberOf fraction 4)
 
--- the instant of a date and of a label's rest, which has `count` decimals; 8 for a rest of another shape
-abbrev pub readTime : (year month day count : ℕ) (rest : List ℕ) → Outcome ℤ
-readTime year month day count rest =
-    cond (fits (timeShape count) rest)
-    (joined year month day (numberAt 1 2 rest) (numberAt 4 2 rest) (numberAt 7 2 rest) (numberAt 10 count rest)) (refused 8)
+-- the instant of a date and of a label's rest; 8 for a rest of another shape
+abbrev pub readTime : (year month day : ℕ) (rest : List ℕ) → Outcome ℤ
+readTime year month day rest =
+    cond (fits (timeShape decimals) rest)
+    (joined year month day (numberAt 1 2 rest) (numberAt 4 2 rest) (numberAt 7 2 rest) (numberAt 10 decimals rest)) (refused 8)
+
+-- century, year of the century, month and day, as two digits each tell them
+abbrev pub DateDigits : (century year month day : ℕ) → Type 0
+DateDigits century year month day = (century < 100) × ((year < 100) × ((month < 100) × (day < 100)))

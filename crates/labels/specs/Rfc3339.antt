@@ -7,18 +7,12 @@ use lib.ListN.{drop}
 use Rattle.refusal.specs.Outcome.{Outcome, refused, mapValue}
 use Rattle.instant.specs.Answers.{splitAnswer, joinAnswer}
 use Rattle.instant.specs.declared.Fields.{Fields}
-use Rattle.labels.specs.Digits.{digits, numberAt, fits}
+use Rattle.labels.specs.Digits.{digits, numberAt, letterT, letterZ, fits}
 use Rattle.labels.specs.Clock.{colon, clockText}
 
--- the marks, beside those of the clock: `-`, `T` and `Z`
+-- `-`, the mark beside those of the clock and the letters
 abbrev pub dash : ℕ
 dash = 45
-
-abbrev pub letterT : ℕ
-letterT = 84
-
-abbrev pub letterZ : ℕ
-letterZ = 90
 
 -- how many decimals the seconds have, and how many bytes a label has
 abbrev pub decimals : ℕ

@@ -10,7 +10,7 @@ use lib.Dec.{eqb, leb, ltb}
 use lib.ListN.{length, take, drop, take-append-drop}
 use lib.Seq.{take-at, drop-at, drop-drop, length-take-le}
 use Rattle.numbers.proofs.Bools.{no-both, and-left, and-right}
-use Rattle.labels.specs.Digits.{digits, isDigit, fitsOne, fits}
+use Rattle.labels.specs.Digits.{digits, isDigit, letterT, letterZ, hasSmall, small, isMark, fitsOne, fits}
 use Rattle.labels.specs.Clock.{colon, clockText}
 use Rattle.labels.specs.Timestamps.{lastNine, inFront, isClock, areHours, isTimestamp}
 use Rattle.labels.specs.CueLines.{isBlank, allBlank, areBlanks, arrow, CueLine, Timing, between, of-none}
@@ -71,15 +71,30 @@ solid-digit byte h =
     let l = leb-true 48 byte (and-left (leb 48 byte) (leb byte 57) h) in
     ap₂ (λ a b. not (a || b)) (ne-eqb byte 32 (λ e. omega arith)) (ne-eqb byte 9 (λ e. omega arith))
 
+-- the marks that may be small are letters
+small-high : (mark : ℕ) → hasSmall mark ≡ true → 84 ≤ mark
+small-high mark = go (eqb mark letterT) refl
+  where
+    go : (t : Bool) → eqb mark letterT ≡ t → (t || eqb mark letterZ) ≡ true → 84 ≤ mark
+    go true e h = omega (arith, eqb-true mark letterT e)
+    go false e h = omega (arith, eqb-true mark letterZ h)
+
 fits-solid : (shape text : List ℕ) → AllAre false shape → fits shape text ≡ true → AllAre false text
 fits-solid [] [] a h = tt
 fits-solid [] (b ∷ bs) a h = no-both false h refl
 fits-solid (s ∷ ss) [] a h = no-both false h refl
 fits-solid (s ∷ ss) (b ∷ bs) a h = (one (eqb s 48) (and-left (fitsOne s b) (fits ss bs) h), fits-solid ss bs (a .1) (and-right (fitsOne s b) (fits ss bs) h))
   where
-    one : (d : Bool) → cond d (isDigit b) (eqb b s) ≡ true → not (isBlank b) ≡ true
+    mark : (t : Bool) → hasSmall s && eqb b (small s) ≡ t → (t || eqb b s) ≡ true → not (isBlank b) ≡ true
+    mark true e f =
+        let l = small-high s (and-left (hasSmall s) _ e) in
+        let k = eqb-true b (small s) (and-right (hasSmall s) _ e) in
+        ap₂ (λ a b. not (a || b)) (ne-eqb b 32 (λ e. omega arith)) (ne-eqb b 9 (λ e. omega arith))
+    mark false e f = ap (λ b. not (isBlank b)) (eqb-true b s f) ∙ a .0
+
+    one : (d : Bool) → cond d (isDigit b) (isMark s b) ≡ true → not (isBlank b) ≡ true
     one true f = solid-digit b f
-    one false f = ap (λ b. not (isBlank b)) (eqb-true b s f) ∙ a .0
+    one false f = mark (hasSmall s && eqb b (small s)) refl f
 
 zeros-solid : (count : ℕ) → AllAre false (digits 0 count)
 zeros-solid zero = tt
@@ -201,18 +216,23 @@ cuts-of line first second c =
       second-cut = sym (drop-drop (run true (drop (arrowAt line + 3) line)) (arrowAt line + 3) line) ∙ ap₂ drop g f ∙ drop-at behind second (length behind) refl;
     }
 
--- marks fit themselves only
+-- marks of one byte fit themselves only
 abbrev pub AllMarks : List ℕ → Type 0
 AllMarks [] = Unit {0}
-AllMarks (mark ∷ marks) = (eqb mark 48 ≡ false) × AllMarks marks
+AllMarks (mark ∷ marks) = ((eqb mark 48 || hasSmall mark) ≡ false) × AllMarks marks
 
 pub marks-fit : (marks text : List ℕ) → AllMarks marks → fits marks text ≡ true → text ≡ marks
 marks-fit [] [] a h = refl
 marks-fit [] (b ∷ bs) a h = no-both false h refl
 marks-fit (m ∷ ms) [] a h = no-both false h refl
 marks-fit (m ∷ ms) (b ∷ bs) a h =
-    let f = ap (λ d. cond d (isDigit b) (eqb b m) && fits ms bs) (sym (a .0)) ∙ h in
-    ap₂ _∷_ (eqb-true b m (and-left (eqb b m) (fits ms bs) f)) (marks-fit ms bs (a .1) (and-right (eqb b m) (fits ms bs) f))
+    let f = one (eqb m 48) (hasSmall m) (a .0) (and-left (fitsOne m b) (fits ms bs) h) in
+    ap₂ _∷_ (eqb-true b m f) (marks-fit ms bs (a .1) (and-right (fitsOne m b) (fits ms bs) h))
+  where
+    one : (d t : Bool) → (d || t) ≡ false → cond d (isDigit b) ((t && eqb b (small m)) || eqb b m) ≡ true → eqb b m ≡ true
+    one true t n f = no-both true refl n
+    one false true n f = no-both true refl n
+    one false false n f = f
 
 pub parts : (line : List ℕ) → isCueLine line ≡ true → CueLine line (firstOf line) (secondOf line)
 parts line h =

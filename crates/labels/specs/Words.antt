@@ -1,10 +1,11 @@
 -- Texts of at most eight bytes as one number, for proofs and private contracts only: nobody has to believe them.
-use Prim.Native.Nat.{ℕ, zero, suc, _+_, _-_, _*_, _/_, _%_, _^_}
-use mathlib.Core.Bool.{cond}
+use Prim.Native.Nat.{ℕ, zero, suc, _+_, _-_, _*_, _/_, _%_, _^_, _≤_, _<_}
+use mathlib.Core.Path.{_≡_}
+use mathlib.Core.Bool.{Bool, true, cond, not, _&&_}
 use mathlib.Core.List.{List, [], _∷_, _++_, map}
-use lib.Dec.{eqb}
-use lib.ListN.{take, drop}
-use Rattle.labels.specs.Digits.{fits}
+use lib.Dec.{eqb, leb}
+use lib.ListN.{length, take, drop}
+use Rattle.labels.specs.Digits.{hasSmall, fits}
 use Rattle.labels.specs.declared.digits.Values.{Values}
 use Rattle.labels.specs.declared.digits.Values.the-variants.{Read, Malformed}
 
@@ -22,12 +23,21 @@ abbrev pub bytesOf : (count n : ℕ) → List ℕ
 bytesOf zero n = []
 bytesOf (suc count) n = bytesOf count n ++ byteOf n count ∷ []
 
--- the bits of a byte that a shape settles: the high ones where a digit stands, else all
-abbrev pub maskOne : (shape : ℕ) → ℕ
-maskOne shape = cond (eqb shape 48) 240 255
+-- a shape without letters, of bytes that a digit's value more leaves below 128
+abbrev pub simple : (shape : List ℕ) → Bool
+simple [] = true
+simple (s ∷ ss) = leb s 118 && (not (hasSmall s) && simple ss)
 
-abbrev pub mask : (shape : List ℕ) → ℕ
-mask shape = word (map maskOne shape)
+-- what the value of each byte can be raised by and stay below 128: 127 less 9 at a digit, and less 0 at a mark
+abbrev pub roomOne : (shape : ℕ) → ℕ
+roomOne shape = cond (eqb shape 48) 118 127
+
+abbrev pub rooms : (shape : List ℕ) → List ℕ
+rooms shape = map roomOne shape
+
+-- a shape of at most eight bytes, and a number of as many
+abbrev pub OneWord : (shape : List ℕ) (n : ℕ) → Type 0
+OneWord shape n = (length shape ≤ 8) × ((simple shape ≡ true) × (n < 256 ^ length shape))
 
 -- how far each byte of a text lies above that of its shape: the values of digits, and 0 at marks
 abbrev pub above : (shape text : List ℕ) → List ℕ
@@ -39,9 +49,14 @@ above (s ∷ ss) (b ∷ bs) = (b - s) ∷ above ss bs
 abbrev pub partOf : (at count : ℕ) → List ℕ → List ℕ
 partOf at count text = take count (drop at text)
 
--- the values of a text of some shape
-abbrev pub readValues : (shape text : List ℕ) → Values
-readValues shape text = cond (fits shape text) (Read (word (above shape text))) Malformed
+-- the bytes of a number as a text against a shape
+abbrev pub textOf : (shape : List ℕ) (n : ℕ) → List ℕ
+textOf shape n = bytesOf (length shape) n
+
+-- the values of two texts of some shapes
+abbrev pub readValues : (shape : List ℕ) (m : ℕ) (other : List ℕ) (n : ℕ) → Values
+readValues shape m other n =
+    cond (fits shape (textOf shape m) && fits other (textOf other n)) (Read (word (above shape (textOf shape m))) (word (above other (textOf other n)))) Malformed
 
 -- two digits from byte k of some values on
 abbrev pub pairOf : (values k : ℕ) → ℕ
@@ -51,3 +66,13 @@ pairOf values k = byteOf (values * 10 + values / 256) k
 abbrev pub numberOf : (values count : ℕ) → ℕ
 numberOf values zero = 0
 numberOf values (suc count) = numberOf values count * 10 + byteOf values count
+
+-- the values of three digits behind a mark
+pub record Thousandths (values : ℕ) : Type 0 where
+  pub tenth : ℕ
+  pub hundredth : ℕ
+  pub thousandth : ℕ
+  pub tenth-le : tenth ≤ 9
+  pub hundredth-le : hundredth ≤ 9
+  pub thousandth-le : thousandth ≤ 9
+  pub values-are : values ≡ ((thousandth * 256 + hundredth) * 256 + tenth) * 256

@@ -5,7 +5,7 @@ ghost use Prim.Native.Nat.{_+_, _^_, _≤_, _<_};
 ghost use mathlib.Core.List.{_∷_, _++_};
 ghost use lib.ListN.{length};
 ghost use Rattle.labels.specs.Digits.{digits};
-ghost use Rattle.labels.specs.Words.{word, partOf, maskOne, mask, readValues, pairOf, numberOf};
+ghost use Rattle.labels.specs.Words.{word, partOf, roomOne, rooms, OneWord, readValues, pairOf, numberOf, Thousandths};
 
 // The byte of the digit 0.
 pub const ZERO: u32 = 48;
@@ -38,26 +38,29 @@ pub fn three_pairs(a: u32, first: u8, b: u32, second: u8, c: u32) -> u64
 }
 
 pub enum Values {
-    Read(u64),
+    Read(u64, u64),
     Malformed,
 }
 
-// The values of the digits of a text from byte `at` on, if it has a shape there: a digit where the shape has a 0, and the same byte
-// where it has another.
-pub fn read_values(shape: &[u8], text: &[u8], at: usize) -> Values
-    requires { ⌜ (length (now shape) ≤ 8) × (at + length (now shape) ≤ length (now text)) ⌝ }
-    ensures { λ r. ⌜ r ≡ readValues (now (shape .entry)) (partOf at (length (now (shape .entry))) (now (text .entry))) ⌝ }
+// The highest bit of each of eight bytes.
+pub const HIGHEST_BITS: u64 = 0x8080_8080_8080_8080;
+
+// The values of the digits of two texts of at most eight bytes, handed in as numbers, if each has its shape: a digit where the shape
+// has a 0, and the same byte where it has another.
+pub fn read_values(first: u64, shape: &[u8], second: u64, other: &[u8]) -> Values
+    requires { ⌜ OneWord (now shape) first × OneWord (now other) second ⌝ }
+    ensures { λ r. ⌜ r ≡ readValues (now (shape .entry)) first (now (other .entry)) second ⌝ }
 {
-    let v = word_at(text, at, shape.len()) ^ word_at(shape, 0, shape.len());
-    // No bit that the shape settles may differ, so that what is left is below 16.
-    if v & mask_of(shape) != 0 {
+    if first & HIGHEST_BITS | second & HIGHEST_BITS != 0 {
         return Values::Malformed;
     }
-    // And below 10: 6 more stay below 16.
-    if v + 0x0606_0606_0606_0606 & 0xf0f0_f0f0_f0f0_f0f0 != 0 {
+    let v = first ^ word_of(shape);
+    let w = second ^ word_of(other);
+    // A byte of a wrong text is raised to 128 or more.
+    if v + room_of(shape) & HIGHEST_BITS | w + room_of(other) & HIGHEST_BITS != 0 {
         return Values::Malformed;
     }
-    Values::Read(v)
+    Values::Read(v, w)
 }
 
 // The number of two digits, from byte k of some values on.
@@ -68,32 +71,14 @@ pub fn pair(values: u64, k: usize) -> u32
     (((values * 10 + values / 256) >> (8 * k)) % 256) as u32
 }
 
-// The number of the first `count` values.
-pub fn number(values: u64, count: usize) -> u32
-    requires { ⌜ count ≤ 8 ⌝ }
-    ensures { λ r. ⌜ r ≡ numberOf values count ⌝ }
+// The number of three digits behind a mark. Of the pairs, the first decimal stands in the lowest byte, and the other two as one in the
+// third: 100 times the first is added.
+pub fn thousandths(values: u64) -> u64
+    requires { ⌜ Thousandths values ⌝ }
+    ensures { λ r. ⌜ (r ≡ numberOf values 4) × (r < 1000) ⌝ }
 {
-    let mut n: u32 = 0;
-    let mut i = 0;
-    while i < count {
-        n = n * 10 + ((values >> (8 * i)) % 256) as u32;
-        i += 1;
-    }
-    n
-}
-
-// Bytes of a text as one number: one load, as long as none of them is used by itself.
-fn word_at(text: &[u8], at: usize, count: usize) -> u64
-    requires { ⌜ (count ≤ 8) × (at + count ≤ length (now text)) ⌝ }
-    ensures { λ r. ⌜ r ≡ word (partOf at count (now (text .entry))) ⌝ }
-{
-    let mut n: u64 = 0;
-    let mut i = count;
-    while i > 0 {
-        i -= 1;
-        n = n * 256 + text[at + i] as u64;
-    }
-    n
+    let pairs = values * 10 + values / 256;
+    (pairs & 0xff_00ff) * 0x64_0001 / 0x1_0000 % 0x1_0000
 }
 
 // Eight bytes of a text as one number, and four, without a loop, which keeps them one load where the numbers are used further.
@@ -114,22 +99,37 @@ pub fn four_bytes(text: &[u8], at: usize) -> u64
         + text[at + 3] as u64 * 0x100_0000
 }
 
-// The bits that a shape settles.
-fn mask_of(shape: &[u8]) -> u64
+// A shape as one number.
+fn word_of(shape: &[u8]) -> u64
     requires { ⌜ length (now shape) ≤ 8 ⌝ }
-    ensures { λ r. ⌜ r ≡ mask (now (shape .entry)) ⌝ }
+    ensures { λ r. ⌜ r ≡ word (now (shape .entry)) ⌝ }
 {
     let mut n: u64 = 0;
     let mut i = shape.len();
     while i > 0 {
         i -= 1;
-        n = n * 256 + mask_one(shape[i]);
+        n = n * 256 + shape[i] as u64;
     }
     n
 }
 
-fn mask_one(shape: u8) -> u64
-    ensures { λ r. ⌜ (r ≡ maskOne shape) × (r ≤ 255) ⌝ }
+// What each value of a shape can be raised by without setting its highest bit.
+fn room_of(shape: &[u8]) -> u64
+    requires { ⌜ length (now shape) ≤ 8 ⌝ }
+    ensures { λ r. ⌜ r ≡ word (rooms (now (shape .entry))) ⌝ }
 {
-    if shape == b'0' { 240 } else { 255 }
+    let mut n: u64 = 0;
+    let mut i = shape.len();
+    while i > 0 {
+        i -= 1;
+        n = n * 256 + room_one(shape[i]);
+    }
+    n
+}
+
+// 127 less 9 at a digit, and less 0 at a mark.
+fn room_one(shape: u8) -> u64
+    ensures { λ r. ⌜ (r ≡ roomOne shape) × (r ≤ 127) ⌝ }
+{
+    if shape == b'0' { 118 } else { 127 }
 }

@@ -14,6 +14,7 @@ use refusal::Refusal;
 mod buffer;
 mod clock;
 mod cue;
+mod date;
 mod digits;
 pub mod rfc3339;
 mod timestamp;

@@ -3,38 +3,45 @@
 use crate::WriteAnswer;
 use crate::buffer;
 use crate::clock;
+use crate::date;
 use crate::digits;
 use crate::digits::COLON;
 use crate::digits::POINT;
 use crate::digits::Values;
 use instant::Fields;
 use instant::FieldsAnswer;
+use instant::units::PER_DAY;
 use refusal::NumberAnswer;
 use refusal::Refusal;
 ghost use mathlib.Core.Path.{_≡_};
-ghost use Prim.Native.Nat.{_+_, _^_, _≤_, _<_};
+ghost use mathlib.Core.Bool.{true};
+ghost use Prim.Native.Nat.{_+_, _*_, _^_, _≤_, _<_};
 ghost use lib.ListN.{length};
 ghost use Rattle.refusal.specs.Outcome.{value, refused, numberOutcome};
 ghost use Rattle.labels.specs.Written.{writeOutcome, bytesWritten, writtenBuffer};
 ghost use Rattle.labels.specs.Filled.{filled};
-ghost use Rattle.labels.specs.Rfc3339.{labelLength, numbersText, labelText, instantLabel, readAnswer};
-ghost use Rattle.labels.specs.Parts.{Narrow, NarrowFields, readTime, joinedValues};
+ghost use Rattle.labels.specs.Rfc3339.{labelLength, decimals, numbersText, labelText, instantLabel, readAnswer};
+ghost use Rattle.labels.specs.Digits.{hasSmall, fitsOne};
+ghost use Rattle.labels.specs.Words.{Thousandths};
+ghost use Rattle.labels.specs.Parts.{Narrow, NarrowFields, DateDigits, readTime, joinedValues};
 
-// The marks, beside colon and point.
+// The marks, beside colon and point. The letters are written as capitals and read as either; a small one is 32 more.
 const DASH: u8 = b'-';
 
 const T: u8 = b'T';
 
 const Z: u8 = b'Z';
 
-// The shapes of `YYYY-MM-`, `DD`, `HH:MM:SS`, and of the decimals with the point in front.
-const TO_MONTH: [u8; 8] = [b'0', b'0', b'0', b'0', DASH, b'0', b'0', DASH];
+const TO_SMALL: u8 = 32;
 
-const DAY: [u8; 2] = [b'0', b'0'];
+// The shapes of `YYYY`, `YY-MM-DD`, `HH:MM:SS` and `.mmm`.
+const YEAR: [u8; 4] = [b'0', b'0', b'0', b'0'];
 
-const TO_SECOND: [u8; 8] = [b'0', b'0', COLON, b'0', b'0', COLON, b'0', b'0'];
+const DATE: [u8; 8] = [b'0', b'0', DASH, b'0', b'0', DASH, b'0', b'0'];
 
-const FRACTION: [u8; 7] = [POINT, b'0', b'0', b'0', b'0', b'0', b'0'];
+const CLOCK: [u8; 8] = [b'0', b'0', COLON, b'0', b'0', COLON, b'0', b'0'];
+
+const FRACTION: [u8; 4] = [POINT, b'0', b'0', b'0'];
 
 // How many decimals the seconds have, and how many bytes a label has.
 const DECIMALS: usize = 3;
@@ -114,63 +121,64 @@ fn read_date(label: &[u8]) -> NumberAnswer
     requires { ⌜ length (now label) ≡ labelLength ⌝ }
     ensures { λ r. ⌜ numberOutcome r ≡ readAnswer (now (label .entry)) ⌝ }
 {
-    let Values::Read(front) = digits::read_values(&TO_MONTH, label, 0) else {
+    let year_text = digits::four_bytes(label, 0);
+    let date_text = digits::eight_bytes(label, 2);
+    let Values::Read(year, date) = digits::read_values(year_text, &YEAR, date_text, &DATE) else {
         return malformed();
     };
-    let Values::Read(back) = digits::read_values(&DAY, label, 8) else {
-        return malformed();
-    };
-    let year = 100 * digits::pair(front, 0) + digits::pair(front, 2);
     read_time(
-        year,
-        digits::pair(front, 5),
-        digits::pair(back, 0),
+        digits::pair(year, 0) as u64,
+        digits::pair(date, 0) as u64,
+        digits::pair(date, 3) as u64,
+        digits::pair(date, 6) as u64,
         &label[TIME..],
-        DECIMALS,
     )
 }
 
-// The instant of a date and of the rest of its label, `THH:MM:SS.` with some decimals and `Z`. 8 for another shape, then 2, 3, 5.
-fn read_time(year: u32, month: u32, day: u32, part: &[u8], decimals: usize) -> NumberAnswer
-    requires { ⌜ (decimals ≤ 6) × (length (now part) ≡ 11 + decimals) ⌝ }
-    ensures { λ r. ⌜ numberOutcome r ≡ readTime year month day decimals (now (part .entry)) ⌝ }
+// The instant of a date and of the rest of its label, `THH:MM:SS.mmmZ`. 8 for another shape, then 2, 3, 5.
+fn read_time(century: u64, year: u64, month: u64, day: u64, part: &[u8]) -> NumberAnswer
+    requires { ⌜ DateDigits century year month day × (length (now part) ≡ 11 + decimals) ⌝ }
+    ensures { λ r. ⌜ numberOutcome r ≡ readTime (100 * century + year) month day (now (part .entry)) ⌝ }
 {
-    let end = 10 + decimals;
-    if part[0] != T {
+    if !is_letter(T, part[0]) {
         return malformed();
     }
-    if part[end] != Z {
+    if !is_letter(Z, part[10 + DECIMALS]) {
         return malformed();
     }
-    let Values::Read(time) = digits::read_values(&TO_SECOND, part, 1) else {
+    let clock_text = digits::eight_bytes(part, 1);
+    let fraction_text = digits::four_bytes(part, 9);
+    let Values::Read(clock, fraction) = digits::read_values(
+        clock_text,
+        &CLOCK,
+        fraction_text,
+        &FRACTION,
+    ) else {
         return malformed();
     };
-    let Values::Read(fraction) = digits::read_values(&FRACTION[..1 + decimals], part, 9) else {
-        return malformed();
-    };
-    join(
-        year,
-        month,
-        day,
-        time,
-        digits::number(fraction, 1 + decimals),
-    )
+    join(century, year, month, day, clock, fraction)
 }
 
-// The instant of a date, of the values of `HH:MM:SS` and of the number of the decimals. 2, 3, 5 as its fields.
-fn join(year: u32, month: u32, day: u32, time: u64, fraction: u32) -> NumberAnswer
-    requires { ⌜ time < 2 ^ 60 ⌝ }
-    ensures { λ r. ⌜ numberOutcome r ≡ joinedValues year month day time fraction ⌝ }
+// Whether a byte is one of the two letters, as a capital or small.
+fn is_letter(letter: u8, byte: u8) -> bool
+    requires { ⌜ hasSmall letter ≡ true ⌝ }
+    ensures { λ r. ⌜ r ≡ fitsOne letter byte ⌝ }
 {
-    instant::join_instant(
-        year as i64,
-        month as i64,
-        day as i64,
-        digits::pair(time, 0) as i64,
-        digits::pair(time, 3) as i64,
-        digits::pair(time, 6) as i64,
-        fraction as i64,
-    )
+    byte == letter + TO_SMALL || byte == letter
+}
+
+// The instant of a date, and of the values of `HH:MM:SS` and of `.mmm`. 2, 3, 5 as its fields.
+fn join(century: u64, year: u64, month: u64, day: u64, clock: u64, fraction: u64) -> NumberAnswer
+    requires { ⌜ DateDigits century year month day × ((clock < 2 ^ 60) × Thousandths fraction) ⌝ }
+    ensures { λ r. ⌜ numberOutcome r ≡ joinedValues (100 * century + year) month day clock fraction ⌝ }
+{
+    match date::day_count(century, year, month, day) {
+        NumberAnswer::Value(count) => match clock::time_of_day(clock, fraction) {
+            NumberAnswer::Value(time) => NumberAnswer::Value(count * PER_DAY + time),
+            NumberAnswer::Refused(r) => NumberAnswer::Refused(r),
+        },
+        NumberAnswer::Refused(of_date) => NumberAnswer::Refused(of_date),
+    }
 }
 
 fn malformed() -> NumberAnswer

@@ -2,6 +2,7 @@
 // bytes, or nine, as two numbers, and the digits in front one by one.
 
 use crate::digits;
+use crate::digits::HIGHEST_BITS;
 ghost use mathlib.Core.Path.{_≡_};
 ghost use Prim.Native.Nat.{_+_, _^_, _≤_, _<_};
 ghost use mathlib.Core.List.{_++_};
@@ -14,9 +15,6 @@ ghost use Rattle.labels.specs.Stamps.{stampOf, oneMore, leading};
 pub const WRONG: u64 = 0x8000_0000_0000_0000;
 
 pub const BEYOND: u64 = 0x4000_0000_0000_0000;
-
-// The highest bit of each of eight bytes.
-const HIGHEST_BITS: u64 = 0x8080_8080_8080_8080;
 
 // `00:00:00` and `.000`; and what the value of each byte can be raised by without setting its highest bit: 127 less 9 at a digit, less
 // 5 at the tens of minutes and seconds, and less 0 at a mark.
@@ -116,10 +114,9 @@ fn of_words(clock: u64, fraction: u64) -> u64
         return WRONG;
     }
     let seconds = digits::pair(v, 3) * SECONDS_PER_MINUTE + digits::pair(v, 6);
-    // The first decimal stands in the lowest byte of the pairs, and the other two as one in the third: 100 times the first is added.
-    let pairs = w * 10 + w / 256;
-    let thousandths = (pairs & 0xff_00ff) * 0x64_0001 / 0x1_0000 % 0x1_0000;
-    digits::pair(v, 0) as u64 * MS_PER_HOUR + (seconds * MS_PER_SECOND) as u64 + thousandths
+    digits::pair(v, 0) as u64 * MS_PER_HOUR
+        + (seconds * MS_PER_SECOND) as u64
+        + digits::thousandths(w)
 }
 
 // The number of the first digits of a text, as far as it takes to be above 999; WRONG if they are no digits.

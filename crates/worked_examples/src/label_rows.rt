@@ -1,4 +1,4 @@
-// Document 01's rows of the two labels.
+// Document 01's rows of the two labels, and small letters as document 02, request Three, has them.
 
 use super::show::number;
 use super::show::number_answer;
@@ -18,6 +18,8 @@ pub fn run() {
     read(b"2023-13-99T99:99:99.999Z");
     read(b"1900-02-29T24:00:00.000Z");
     read(b"2023-05-10t14:30:00.000z");
+    read(b"2023-05-10T14:30:00.000z");
+    read(b"2023-05-10z14:30:00.000t");
     read(b"2023-05-10T14:30:00.00Z");
     position(0);
     position(359999999999);

@@ -1,24 +1,42 @@
 use Prim.Native.Nat.{_+_, _-_, _*_}
-use mathlib.Core.Path.{sym, _∙_}
-use native.Mathlib.Omega.{arith}
 use lib.ListN.{length, take, drop}
-use Rattle.labels.specs.Rfc3339.{decimals}
-use Rattle.labels.specs.Words.{partOf}
 use Rattle.labels.specs.Parts.{readTime}
-use Rattle.labels.proofs.ReadValues.{values-read, values-malformed}
-use Rattle.labels.proofs.Reading.{toMonthShape, dayShape, wrong-month, wrong-day, date-read}
+use mathlib.Core.Path.{_≡_, refl, sym, ap, _∙_}
+use native.Mathlib.Omega.{arith}
+use Rattle.labels.proofs.Words.{bytes}
+use Rattle.labels.proofs.ReadValues.{ValuesRead}
+use Rattle.labels.proofs.Reading.{yearShape, fromYearShape, two-read, two-wrong, wrong-date, date-read}
+use Rattle.labels.specs.Words.{partOf, OneWord}
 use borrow.Author.Needs.{needs}
 use Rattle.labels.proofs.rfc3339.read_date.Statement.{statement}
 use Rattle.labels.proofs.rfc3339.read_date.Tie as tie
 
+year-word : (c : tie.After-read-values-arg2) → OneWord yearShape (c .before .before .before .four-bytes .result)
+year-word c = (omega arith, (refl, search needs))
+
+date-word : (c : tie.After-read-values-arg2) → OneWord fromYearShape (c .before .before .eight-bytes .result)
+date-word c = (omega arith, (refl, search needs))
+
+abbrev start : tie.After-read-values-arg2 → tie.Start
+start c = c .before .before .before .before .before
+
+four-bytes-requires : tie.Need-four-bytes-requires
+four-bytes-requires c κs = search needs
+
+eight-bytes-requires : tie.Need-eight-bytes-requires
+eight-bytes-requires c κs = search needs
+
 slice-aggregate-read-values : tie.Need-slice-aggregate-read-values
 slice-aggregate-read-values c = search needs
 
-read-values-requires : tie.Need-read-values-requires
-read-values-requires c κs = search needs
+slice-aggregate-read-values-2 : tie.Need-slice-aggregate-read-values-2
+slice-aggregate-read-values-2 c = search needs
 
-enum-known-front : tie.Need-enum-known-front
-enum-known-front c = search needs
+read-values-requires : tie.Need-read-values-requires
+read-values-requires c κs = (year-word c, date-word c)
+
+enum-known-year : tie.Need-enum-known-year
+enum-known-year c = search needs
 
 enum-told : tie.Need-enum-told
 enum-told c = search needs
@@ -26,46 +44,48 @@ enum-told c = search needs
 malformed-requires : tie.Need-malformed-requires
 malformed-requires c κs = search needs
 
+-- what the two numbers tell of the label
+read-both : (c : tie.After-known-told) → let label = start (c .before .before .before .before) .args .label .now in
+    let g = c .before .year .given .0 in
+    ValuesRead yearShape (partOf 0 4 label) (g .0) × ValuesRead fromYearShape (partOf 2 8 label) (g .1 .0)
+read-both c =
+    let k = c .before .before .before .before in
+    let label = start k .args .label .now in
+    let g = c .before .year .given in
+    two-read label (bytes label (k .before .before .before .before .shared-slice-known .given)) yearShape fromYearShape 0 2 (omega arith) (omega arith) (k .before .before .before .four-bytes .ensures .0) (k .before .before .eight-bytes .ensures)
+    (g .0 .0) (g .0 .1 .0) (year-word k) (date-word k) (sym (g .1) ∙ c .before .before .before .read-values .ensures)
+
 returns : tie.Need-returns
-returns c = c .malformed .ensures ∙ wrong-month (c .before .before .before .before .before .before .args .label .now) (values-malformed toMonthShape (partOf 0 8 (c .before .before .before .before .before .before .args .label .now)) (sym (c .before .enum-told .given .1) ∙ c .before .before .before .read-values .ensures))
-
-slice-aggregate-read-values-2 : tie.Need-slice-aggregate-read-values-2
-slice-aggregate-read-values-2 c = search needs
-
-read-values-requires-2 : tie.Need-read-values-requires-2
-read-values-requires-2 c κs = search needs
-
-enum-known-back : tie.Need-enum-known-back
-enum-known-back c = search needs
-
-enum-told-2 : tie.Need-enum-told-2
-enum-told-2 c = search needs
-
-malformed-requires-2 : tie.Need-malformed-requires-2
-malformed-requires-2 c κs = search needs
-
-returns-2 : tie.Need-returns-2
-returns-2 c =
-    let label = c .before .before .before .before .before .before .before .before .before .before .before .args .label .now in
-    c .malformed2 .ensures ∙ wrong-day label ((let g = c .before .before .before .before .before .before .front .given in values-read toMonthShape (partOf 0 8 (c .before .before .before .before .before .before .before .before .before .before .before .args .label .now)) (g .0 .0) (omega arith) (sym (g .1) ∙ c .before .before .before .before .before .before .before .before .read-values .ensures)) .shape-fits) (values-malformed dayShape (partOf 8 2 label) (sym (c .before .enum-told2 .given .1) ∙ c .before .before .before .read-values2 .ensures))
+returns c =
+    let k = c .before .before .before .before in
+    let label = start k .args .label .now in
+    c .malformed .ensures
+    ∙ wrong-date label (two-wrong label (bytes label (k .before .before .before .before .shared-slice-known .given)) yearShape fromYearShape 0 2 (omega arith) (omega arith) (k .before .before .before .four-bytes .ensures .0) (k .before .before .eight-bytes .ensures)
+    (sym (c .before .enum-told .given .1) ∙ c .before .before .before .read-values .ensures))
 
 pair-requires : tie.Need-pair-requires
-pair-requires c κs = ((let g = c .before .before .before .before .before .before .front .given in values-read toMonthShape (partOf 0 8 (c .before .before .before .before .before .before .before .before .before .before .before .args .label .now)) (g .0 .0) (omega arith) (sym (g .1) ∙ c .before .before .before .before .before .before .before .before .read-values .ensures)) .small, omega arith)
+pair-requires c κs = (read-both c .0 .small, omega arith)
 
-mul-year : tie.Need-mul-year
-mul-year c = search needs
+cast-read-time : tie.Need-cast-read-time
+cast-read-time c = search needs
 
 pair-requires-2 : tie.Need-pair-requires-2
-pair-requires-2 c κs = ((let g = c .before .before .before .before .before .before .before .front .given in values-read toMonthShape (partOf 0 8 (c .before .before .before .before .before .before .before .before .before .before .before .before .args .label .now)) (g .0 .0) (omega arith) (sym (g .1) ∙ c .before .before .before .before .before .before .before .before .before .read-values .ensures)) .small, omega arith)
+pair-requires-2 c κs = (read-both (c .before) .1 .small, omega arith)
 
-add-year : tie.Need-add-year
-add-year c = search needs
+cast-read-time-2 : tie.Need-cast-read-time-2
+cast-read-time-2 c = search needs
 
 pair-requires-3 : tie.Need-pair-requires-3
-pair-requires-3 c κs = ((let g = c .before .before .before .before .before .before .before .before .front .given in values-read toMonthShape (partOf 0 8 (c .before .before .before .before .before .before .before .before .before .before .before .before .before .args .label .now)) (g .0 .0) (omega arith) (sym (g .1) ∙ c .before .before .before .before .before .before .before .before .before .before .read-values .ensures)) .small, omega arith)
+pair-requires-3 c κs = (read-both (c .before .before) .1 .small, omega arith)
+
+cast-read-time-3 : tie.Need-cast-read-time-3
+cast-read-time-3 c = search needs
 
 pair-requires-4 : tie.Need-pair-requires-4
-pair-requires-4 c κs = ((let g = c .before .before .before .before .back .given in values-read dayShape (partOf 8 2 (c .before .before .before .before .before .before .before .before .before .before .before .before .before .before .args .label .now)) (g .0 .0) (omega arith) (sym (g .1) ∙ c .before .before .before .before .before .before .read-values2 .ensures)) .small, omega arith)
+pair-requires-4 c κs = (read-both (c .before .before .before) .1 .small, omega arith)
+
+cast-read-time-4 : tie.Need-cast-read-time-4
+cast-read-time-4 c = search needs
 
 sub-read-time : tie.Need-sub-read-time
 sub-read-time c = search needs
@@ -77,40 +97,28 @@ part-read-time-end : tie.Need-part-read-time-end
 part-read-time-end c = search needs
 
 read-time-requires : tie.Need-read-time-requires
-read-time-requires c κs = search needs
+read-time-requires c κs =
+    let r = read-both (c .before .before .before .before .before) in (
+      (
+        omega (arith, c .before .before .before .before .pair .ensures, r .0 .pair-below 0),
+        (
+          omega (arith, c .before .before .before .pair2 .ensures, r .1 .pair-below 0),
+          (omega (arith, c .before .before .pair3 .ensures, r .1 .pair-below 3), omega (arith, c .before .pair4 .ensures, r .1 .pair-below 6)),
+        ),
+      ),
+      search needs,
+    )
 
-returns-3 : tie.Need-returns-3
-returns-3 c =
-    let s = c .before .before .before .before .before .before .before .before .before .before .before .before .before .before .before .before .before in
+returns-2 : tie.Need-returns-2
+returns-2 c =
+    let k = c .before .before .before .before .before .before in
+    let s = start (k .before .before .before .before) in
     let label = s .args .label .now in
+    let r = read-both k in
+    let g = k .before .year .given .0 in
     c .read-time .ensures
-    ∙ (λ i. readTime (100 * c .before .before .before .before .before .pair .ensures i + c .before .before .before .before .pair2 .ensures i) (c .before .before .before .pair3 .ensures i) (c .before .before .pair4 .ensures i) decimals (take (length label - 10) (drop 10 label)))
-    ∙ date-read label (c .before .before .before .before .before .before .before .before .before .before .before .before .front .given .0 .0) (c .before .before .before .before .before .before .before .back .given .0 .0) (s .pre) (let g = c .before .before .before .before .before .before .before .before .before .before .before .before .front .given in values-read toMonthShape (partOf 0 8 (c .before .before .before .before .before .before .before .before .before .before .before .before .before .before .before .before .before .args .label .now)) (g .0 .0) (omega arith) (sym (g .1) ∙ c .before .before .before .before .before .before .before .before .before .before .before .before .before .before .read-values .ensures)) (let g = c .before .before .before .before .before .before .before .back .given in values-read dayShape (partOf 8 2 (c .before .before .before .before .before .before .before .before .before .before .before .before .before .before .before .before .before .args .label .now)) (g .0 .0) (omega arith) (sym (g .1) ∙ c .before .before .before .before .before .before .before .before .before .read-values2 .ensures))
+    ∙ (λ i. readTime (100 * c .before .before .before .before .before .pair .ensures i + c .before .before .before .before .pair2 .ensures i) (c .before .before .before .pair3 .ensures i) (c .before .before .pair4 .ensures i) (take (length label - 10) (drop 10 label)))
+    ∙ date-read label (g .0) (g .1 .0) (s .pre) (r .0) (r .1)
 
 pub read-date-spec : {M : Type 1} → statement M
-read-date-spec =
-    tie.close
-    (tie.spec
-    slice-aggregate-read-values
-    read-values-requires
-    enum-known-front
-    enum-told
-    malformed-requires
-    returns
-    slice-aggregate-read-values-2
-    read-values-requires-2
-    enum-known-back
-    enum-told-2
-    malformed-requires-2
-    returns-2
-    pair-requires
-    mul-year
-    pair-requires-2
-    add-year
-    pair-requires-3
-    pair-requires-4
-    sub-read-time
-    part-read-time-start
-    part-read-time-end
-    read-time-requires
-    returns-3)
+read-date-spec = tie.close (tie.spec four-bytes-requires eight-bytes-requires slice-aggregate-read-values slice-aggregate-read-values-2 read-values-requires enum-known-year enum-told malformed-requires returns pair-requires cast-read-time pair-requires-2 cast-read-time-2 pair-requires-3 cast-read-time-3 pair-requires-4 cast-read-time-4 sub-read-time part-read-time-start part-read-time-end read-time-requires returns-2)

@@ -1,7 +1,5 @@
-use Prim.Native.Nat.{_+_, _*_, _/_}
 use native.Mathlib.Omega.{arith}
-use lib.Bits.{bitXor, and-le-r}
-use Rattle.labels.proofs.ClockWords.{high-byte, first-sum, rest-sum, no-room, first-small, rest-small, words-stamp}
+use Rattle.labels.proofs.ClockWords.{high-byte, first-sum, rest-sum, no-room, first-small, decimals, words-stamp}
 use borrow.Author.Needs.{needs}
 use Rattle.labels.proofs.timestamp.of_words.Statement.{statement}
 use Rattle.labels.proofs.timestamp.of_words.Tie as tie
@@ -42,22 +40,6 @@ pair-requires-2 c κs =
 add-seconds : tie.Need-add-seconds
 add-seconds c = search needs
 
-mul-pairs : tie.Need-mul-pairs
-mul-pairs c =
-    let s = c .before .before .before .before in
-    record { fits = omega (arith, rest-small (s .args .clock) (s .args .fraction) (s .fits .clock .fits) (s .pre) (c .before .before .before .if1 .left) (c .before .before .if2 .left)) }
-
-add-pairs : tie.Need-add-pairs
-add-pairs c =
-    let s = c .before .before .before .before in
-    record { fits = omega (arith, rest-small (s .args .clock) (s .args .fraction) (s .fits .clock .fits) (s .pre) (c .before .before .before .if1 .left) (c .before .before .if2 .left)) }
-
-mul-thousandths : tie.Need-mul-thousandths
-mul-thousandths c =
-    let s = c .before .before .before .before in
-    let w = bitXor (s .args .fraction) 808464430 in
-    record { fits = omega (arith, and-le-r (w * 10 + w / 256) 16711935) }
-
 pair-requires-3 : tie.Need-pair-requires-3
 pair-requires-3 c κs =
     let s = c .before .before .before .before in
@@ -78,14 +60,19 @@ cast-result-2 c = search needs
 add-result : tie.Need-add-result
 add-result c = search needs
 
+thousandths-requires : tie.Need-thousandths-requires
+thousandths-requires c κs =
+    let s = c .before .before .before .before .before in
+    decimals (s .args .clock) (s .args .fraction) (s .fits .clock .fits) (s .pre) (c .before .before .before .before .if1 .left) (c .before .before .before .if2 .left)
+
 add-result-2 : tie.Need-add-result-2
 add-result-2 c = search needs
 
 returns-3 : tie.Need-returns-3
 returns-3 c =
-    let s = c .before .before .before .before .before in
-    words-stamp (s .args .clock) (s .args .fraction) (s .fits .clock .fits) (s .pre) (c .before .before .before .before .if1 .left) (c .before .before .before .if2 .left)
-    (c .pair3 .ensures) (c .before .before .pair .ensures) (c .before .pair2 .ensures)
+    let s = c .before .before .before .before .before .before in
+    words-stamp (s .args .clock) (s .args .fraction) (s .fits .clock .fits) (s .pre) (c .before .before .before .before .before .if1 .left) (c .before .before .before .before .if2 .left)
+    (c .before .pair3 .ensures) (c .before .before .before .pair .ensures) (c .before .before .pair2 .ensures) (c .thousandths .ensures .0)
 
 pub of-words-spec : {M : Type 1} → statement M
 of-words-spec =
@@ -99,14 +86,12 @@ of-words-spec =
     mul-seconds
     pair-requires-2
     add-seconds
-    mul-pairs
-    add-pairs
-    mul-thousandths
     pair-requires-3
     cast-result
     mul-result
     mul-result-2
     cast-result-2
     add-result
+    thousandths-requires
     add-result-2
     returns-3)

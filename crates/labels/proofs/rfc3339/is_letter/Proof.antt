@@ -1,0 +1,37 @@
+use mathlib.Core.Bool.{Bool, true, false, cond, _&&_, _||_}
+use mathlib.Core.Path.{_≡_, refl, sym, ap, ap₂, _∙_}
+use native.Mathlib.Omega.{arith}
+use borrow.Author.Tests.{eq-eqb, ne-eqb, eqb-true}
+use lib.Dec.{eqb}
+use Prim.Native.Nat.{ℕ, _+_, _≤_}
+use Rattle.numbers.proofs.Bools.{no-both}
+use Rattle.labels.specs.Digits.{isDigit, letterT, letterZ, hasSmall, small, fitsOne}
+use Rattle.labels.proofs.rfc3339.is_letter.Statement.{statement}
+use Rattle.labels.proofs.rfc3339.is_letter.Tie as tie
+
+-- a letter is no digit, and fits as a small one or as it is
+letter-fits : (letter byte : ℕ) → hasSmall letter ≡ true → fitsOne letter byte ≡ (eqb byte (small letter) || eqb byte letter)
+letter-fits letter byte h =
+    ap₂ (λ d t. cond d (isDigit byte) ((t && eqb byte (small letter)) || eqb byte letter)) (ne-eqb letter 48 (λ e. no-both _ h (ap hasSmall e))) h
+
+small-le : (letter : ℕ) → hasSmall letter ≡ true → letter ≤ 90
+small-le letter = go (eqb letter letterT) refl
+  where
+    go : (t : Bool) → eqb letter letterT ≡ t → (t || eqb letter letterZ) ≡ true → letter ≤ 90
+    go true e h = omega (arith, eqb-true letter letterT e)
+    go false e h = omega (arith, eqb-true letter letterZ h)
+
+add-if1 : tie.Need-add-if1
+add-if1 c = omega (arith, small-le (c .args .letter) (c .pre))
+
+returns : tie.Need-returns
+returns c = let a = c .before .args in
+    let e = eq-eqb (a .byte) (a .letter + 32) (c .if1 .taken) in
+    e ∙ sym (letter-fits (a .letter) (a .byte) (c .before .pre) ∙ ap (λ t. t || eqb (a .byte) (a .letter)) e)
+
+returns-2 : tie.Need-returns-2
+returns-2 c = let a = c .before .args in
+    sym (letter-fits (a .letter) (a .byte) (c .before .pre) ∙ ap (λ t. t || eqb (a .byte) (a .letter)) (ne-eqb (a .byte) (a .letter + 32) (c .if1 .left)))
+
+pub is-letter-spec : {M : Type 1} → statement M
+is-letter-spec = tie.close (tie.spec add-if1 returns returns-2)

@@ -1,0 +1,78 @@
+// The day count of a label's date. The digits tell the century and its year apart, so that no year is divided.
+
+use refusal::NumberAnswer;
+use refusal::Refusal;
+ghost use mathlib.Core.Path.{_≡_};
+ghost use Prim.Native.Nat.{_+_, _-_, _*_, _≤_, _<_};
+ghost use lib.IntN.{pos};
+ghost use Rattle.refusal.specs.Outcome.{numberOutcome};
+ghost use Rattle.calendar.specs.Closed.{leapDay, monthDays, before};
+ghost use Rattle.calendar.specs.Answers.{daysAnswer};
+
+// Four centuries have so many days, and four years; a quarter, rounded down, is what stands before a year of a century.
+const FOUR_CENTURIES: u64 = 146097;
+
+const FOUR_YEARS: u64 = 1461;
+
+// 1970-01-01, counted from the day before the year 0.
+const EPOCH: i64 = 719529;
+
+// The day count of a date whose year is 100 times the century and the year of it. 2 and 3 as the calendar, and never 1.
+pub fn day_count(century: u64, year: u64, month: u64, day: u64) -> NumberAnswer
+    requires { ⌜ (century < 100) × ((year < 100) × ((month < 100) × (day < 100))) ⌝ }
+    ensures { λ r. ⌜ numberOutcome r ≡ daysAnswer (pos (100 * century + year)) (pos month) (pos day) ⌝ }
+{
+    if month < 1 || month > 12 {
+        return NumberAnswer::Refused(Refusal::MonthOutOfRange);
+    }
+    let entry = month_entry(leap_day(century, year), month);
+    if day < 1 || day > entry % 32 {
+        return NumberAnswer::Refused(Refusal::DayOutOfRange);
+    }
+    let days = FOUR_CENTURIES * century / 4 + FOUR_YEARS * year / 4 + entry / 32 + day;
+    NumberAnswer::Value(days as i64 - EPOCH)
+}
+
+// 1 in a leap year, else 0: 4 divides the year of the century, or the century where that year is 0.
+fn leap_day(century: u64, year: u64) -> u64
+    requires { ⌜ (century < 100) × (year < 100) ⌝ }
+    ensures { λ r. ⌜ (r ≡ leapDay (100 * century + year)) × (r ≤ 1) ⌝ }
+{
+    let n = if year == 0 { century } else { year };
+    (n % 4 == 0) as u64
+}
+
+// A month's length, and 32 times the days before it, one more in a common year, since a quarter of the years before it has been
+// rounded down.
+fn month_entry(leap: u64, month: u64) -> u64
+    requires { ⌜ (leap ≤ 1) × ((1 ≤ month) × (month ≤ 12)) ⌝ }
+    ensures { λ r. ⌜ (r ≡ 32 * (before leap month + 1 - leap) + monthDays leap month) × (r < 12000) ⌝ }
+{
+    match 2 * month + leap {
+        2 => 32 * 1 + 31,
+        3 => 32 * 0 + 31,
+        4 => 32 * 32 + 28,
+        5 => 32 * 31 + 29,
+        6 => 32 * 60 + 31,
+        7 => 32 * 60 + 31,
+        8 => 32 * 91 + 30,
+        9 => 32 * 91 + 30,
+        10 => 32 * 121 + 31,
+        11 => 32 * 121 + 31,
+        12 => 32 * 152 + 30,
+        13 => 32 * 152 + 30,
+        14 => 32 * 182 + 31,
+        15 => 32 * 182 + 31,
+        16 => 32 * 213 + 31,
+        17 => 32 * 213 + 31,
+        18 => 32 * 244 + 30,
+        19 => 32 * 244 + 30,
+        20 => 32 * 274 + 31,
+        21 => 32 * 274 + 31,
+        22 => 32 * 305 + 30,
+        23 => 32 * 305 + 30,
+        24 => 32 * 335 + 31,
+        25 => 32 * 335 + 31,
+        _ => 0,
+    }
+}
