@@ -36,7 +36,7 @@ extern "C" {
 
 /* The version of this header, in numbers and as a string. */
 #define OVENQUILL_VERSION_MAJOR 0
-#define OVENQUILL_VERSION_MINOR 2
+#define OVENQUILL_VERSION_MINOR 3
 #define OVENQUILL_VERSION_PATCH 0
 #define OVENQUILL_VERSION OVENQUILL_DOTTED_(OVENQUILL_VERSION_MAJOR, OVENQUILL_VERSION_MINOR, OVENQUILL_VERSION_PATCH)
 #define OVENQUILL_DOTTED_(major, minor, patch) OVENQUILL_STRING_(major.minor.patch)
@@ -161,7 +161,7 @@ static inline const char *ovenquill_refusal_text(int64_t answer)
         return "buffer shorter than the label";
     case OVENQUILL_MALFORMED_LABEL:
         return "label not " OVENQUILL_TEXT_(OVENQUILL_INSTANT_LABEL_BYTES)
-               " bytes, a non-digit where a digit stands, or a wrong mark";
+               " bytes, a non-digit where a digit stands, or a wrong mark; T and Z may be small";
     case OVENQUILL_CONSTANT_OUT_OF_LIMITS:
         return "a constant, a search end or a claimed bound outside its limits";
     case OVENQUILL_DIFFERENCE_BELOW_BOUND:
@@ -314,7 +314,7 @@ int64_t ovenquill_join_instant(int64_t year, int64_t month, int64_t day, int64_t
  */
 int64_t ovenquill_index_days(const int64_t *instants, size_t count, int32_t *days, size_t days_length, int64_t *place);
 
-/* Instant labels: YYYY-MM-DDTHH:MM:SS.mmmZ, a form of RFC 3339. */
+/* Instant labels: YYYY-MM-DDTHH:MM:SS.mmmZ, a form of RFC 3339. The T and the Z are written as capitals. */
 
 /*
  * Writes the label of an instant to the front of `out`, and answers the bytes written, OVENQUILL_INSTANT_LABEL_BYTES. The
@@ -327,8 +327,8 @@ int64_t ovenquill_index_days(const int64_t *instants, size_t count, int32_t *day
 int64_t ovenquill_write_instant(int64_t instant, uint8_t *out, size_t length);
 
 /*
- * Reads a label, whose T and Z are capitals. Writes its instant to `instant` and answers 0. What it reads is what
- * ovenquill_write_instant writes for that instant, byte for byte.
+ * Reads a label, whose T and Z may each be a capital or small. Writes its instant to `instant` and answers 0. What it reads,
+ * with the two letters as capitals, is what ovenquill_write_instant writes for that instant, byte for byte.
  *
  * Refusals, after which `instant` is unchanged:
  *   OVENQUILL_MALFORMED_LABEL      length other than OVENQUILL_INSTANT_LABEL_BYTES, a byte that is no decimal digit where one

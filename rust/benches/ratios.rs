@@ -267,10 +267,16 @@ fn labels_of(instants: &[i64]) -> Vec<[u8; INSTANT_LABEL_BYTES]> {
     instants.iter().map(label_of).collect()
 }
 
+/// Each letter as often small as capital.
+fn in_either_case(random: &mut Random, labels: Vec<[u8; INSTANT_LABEL_BYTES]>) -> Vec<[u8; INSTANT_LABEL_BYTES]> {
+    let mut either = |byte: u8| random.choose(&[byte, byte.to_ascii_lowercase()]);
+    labels.into_iter().map(|label| label.map(&mut either)).collect()
+}
+
 fn label_lines() {
     let mut random = Random::new(102);
     let list = numbers(&mut random, INSTANTS);
-    let right = labels_of(&list);
+    let right = in_either_case(&mut random, labels_of(&list));
     let damaged = damaged(&mut random, &right);
     let short = numbers(&mut random, *POSITIONS.start()..=100 * labels::POSITION_HOUR - 1);
     let long: Vec<i64> = (0..INPUTS).map(|_| random.of_any_size(*POSITIONS.start(), *POSITIONS.end())).collect();
@@ -293,7 +299,12 @@ fn label_lines() {
         );
     }
     for (what, inputs) in [("read an instant label", &right), ("read a label, 1 in 8 damaged", &damaged)] {
-        line::<Reader>(what, &Inputs::of(inputs), raw::ovenquill_read_instant, &[(BY_HAND, labels::read_instant)]);
+        line::<Reader>(
+            what,
+            &Inputs::of(inputs),
+            raw::ovenquill_read_instant,
+            &[(BY_HAND, labels::read_instant::<false>), ("Rust, eight bytes at a time", labels::read_instant::<true>)],
+        );
     }
 }
 
@@ -457,12 +468,6 @@ fn month_length_lines() {
         &Inputs::of(&fields),
         lengths::by_bits_ovenquill_join_instant,
         &[(by_match, lengths::by_match_ovenquill_join_instant)],
-    );
-    line::<Reader>(
-        "read an instant label, by bits",
-        &Inputs::of(&labels_of(&instants)),
-        lengths::by_bits_ovenquill_read_instant,
-        &[(by_match, lengths::by_match_ovenquill_read_instant)],
     );
 }
 

@@ -50,7 +50,9 @@ pub fn write_instant(instant: i64, out: &mut [u8]) -> Result<usize, Refusal> {
     counted(unsafe { raw::ovenquill_write_instant(instant, out.as_mut_ptr(), out.len()) })
 }
 
-/// The instant of a label.
+/// The instant of a label, whose T and Z may each be a capital or small.
+///
+/// What is read, with the two letters as capitals, is what [`write_instant`] writes for that instant.
 ///
 /// Refused are, in this order, bytes that are no label ([`Refusal::MalformedLabel`]), a month or a day that is none
 /// ([`Refusal::MonthOutOfRange`], [`Refusal::DayOutOfRange`]) and a time that no day has ([`Refusal::TimeOutOfRange`]).
@@ -59,6 +61,7 @@ pub fn write_instant(instant: i64, out: &mut [u8]) -> Result<usize, Refusal> {
 /// use ovenquill::{read_instant, Refusal};
 ///
 /// assert_eq!(read_instant(b"2023-05-10T14:30:00.000Z"), Ok(1683729000000));
+/// assert_eq!(read_instant(b"2023-05-10t14:30:00.000z"), Ok(1683729000000));
 /// assert_eq!(read_instant(b"2023-05-10 14:30:00.000Z"), Err(Refusal::MalformedLabel));
 /// assert_eq!(read_instant(b"2016-12-31T23:59:60.000Z"), Err(Refusal::TimeOutOfRange));
 /// ```
@@ -244,7 +247,8 @@ label_type! {
     /// The label of an instant. The order of labels is that of their instants.
     ///
     /// [`instant_label`] makes one of an instant. One is read from text with [`str::parse`] and from bytes with
-    /// [`TryFrom`], which refuse what [`read_instant`] refuses.
+    /// [`TryFrom`], which refuse what [`read_instant`] refuses; it then is the label that is written for that instant, with
+    /// capital letters.
     ///
     /// ```
     /// use ovenquill::{instant_label, read_instant, InstantLabel, Refusal};
@@ -254,7 +258,8 @@ label_type! {
     /// assert_eq!(label.to_string(), label.as_str());
     /// assert_eq!(read_instant(label.as_ref())?, 1683729000000);
     ///
-    /// let read: InstantLabel = "2023-05-10T14:30:00.001Z".parse()?;
+    /// let read: InstantLabel = "2023-05-10t14:30:00.001z".parse()?;
+    /// assert_eq!(read, "2023-05-10T14:30:00.001Z");
     /// assert!(label < read);
     /// assert_eq!("2023-05-10".parse::<InstantLabel>(), Err(Refusal::MalformedLabel));
     /// # Ok::<(), Refusal>(())

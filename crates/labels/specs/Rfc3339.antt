@@ -1,4 +1,5 @@
--- Instant labels, `YYYY-MM-DDTHH:MM:SS.mmmZ`: document 01, "Instant label". The form is that of RFC 3339, section 5.6.
+-- Instant labels, `YYYY-MM-DDTHH:MM:SS.mmmZ`: document 01, "Instant label", read with small letters too: document 02, request Three. The
+-- form is that of RFC 3339, section 5.6.
 use Prim.Native.Nat.{ℕ, _+_}
 use mathlib.Core.Bool.{cond}
 use mathlib.Core.List.{List, [], _∷_, _++_}
@@ -43,7 +44,7 @@ labelText f =
 unfoldable pub instantLabel : (instant : ℤ) → Outcome (List ℕ)
 instantLabel instant = mapValue labelText (splitAnswer instant)
 
--- the shape of a label is that of zeros: digits where these have digits, and the same marks
+-- the shape of a label is that of zeros: digits where these have digits, and the same marks, of which T and Z may be small
 abbrev pub dateShape : List ℕ
 dateShape = dateText 0 0 0
 

@@ -1,4 +1,4 @@
-// RFC 3339 instant labels (RFC 3339, section 5.6): `YYYY-MM-DDTHH:MM:SS.mmmZ`.
+// RFC 3339 instant labels (RFC 3339, section 5.6): `YYYY-MM-DDTHH:MM:SS.mmmZ`, read with a small t or z too.
 
 use crate::WriteAnswer;
 use crate::buffer;

@@ -16,10 +16,11 @@ use Rattle.calendar.specs.Closed.{cycle, baseYear, leapDay, leapℕ, leaps, sta
 use Rattle.calendar.proofs.Laws.{date-at}
 use Rattle.instant.specs.Instant.{dayOf, timeOf, fieldsOf, fieldsAt}
 use Rattle.instant.specs.Answers.{dayAnswer, splitAnswer}
-use Rattle.labels.specs.Rfc3339.{numbersText, labelText, instantLabel}
+use Rattle.labels.specs.Rfc3339.{numbersText, labelText, instantLabel, readAnswer}
 use Rattle.labels.specs.Webvtt.{positionLabel}
 use Rattle.labels.specs.Timestamps.{positionAnswer}
 use Rattle.labels.specs.Cues.{cueOf, cueLineAnswer}
+use Rattle.labels.proofs.Laws.{write-read}
 use Rattle.labels.proofs.CueParts.{cue-line}
 use Rattle.constants.specs.Difference.{exactQuotient, deviceQuotient, differs}
 use Rattle.constants.specs.Least.{at, leastBelow}
@@ -152,6 +153,13 @@ pub instant-label-row :
     ≡ value (50 ∷ 48 ∷ 50 ∷ 51 ∷ 45 ∷ 48 ∷ 53 ∷ 45 ∷ 49 ∷ 48 ∷ 84 ∷ 49 ∷ 52 ∷ 58 ∷ 51 ∷ 48 ∷ 58 ∷ 48 ∷ 48 ∷ 46 ∷ 48 ∷ 48 ∷ 48 ∷ 90 ∷ [])
 unfolding instantLabel splitAnswer fieldsOf fieldsAt dayOf timeOf numbersText
 instant-label-row = ap (λ d. value (labelText (fieldsAt d (timeOf (pos 1683729000000))))) day-19487
+
+-- `2023-05-10t14:30:00.000z`, document 02, request Three
+pub small-letters-row :
+    readAnswer (50 ∷ 48 ∷ 50 ∷ 51 ∷ 45 ∷ 48 ∷ 53 ∷ 45 ∷ 49 ∷ 48 ∷ 116 ∷ 49 ∷ 52 ∷ 58 ∷ 51 ∷ 48 ∷ 58 ∷ 48 ∷ 48 ∷ 46 ∷ 48 ∷ 48 ∷ 48 ∷ 122 ∷ [])
+    ≡ value (pos 1683729000000)
+unfolding readAnswer
+small-letters-row = write-read (pos 1683729000000) _ instant-label-row
 
 -- `1191:02:47.296`
 pub position-label-row : positionLabel (pos 4287767296) ≡ value (49 ∷ 49 ∷ 57 ∷ 49 ∷ 58 ∷ 48 ∷ 50 ∷ 58 ∷ 52 ∷ 55 ∷ 46 ∷ 50 ∷ 57 ∷ 54 ∷ [])

@@ -20,6 +20,4 @@ both_ways! {
         (year: i64, month: i64, day: i64, days: i64, date: *mut Date);
     by_bits_ovenquill_join_instant, by_match_ovenquill_join_instant:
         (year: i64, month: i64, day: i64, hour: i64, minute: i64, second: i64, millisecond: i64, instant: *mut i64);
-    by_bits_ovenquill_read_instant, by_match_ovenquill_read_instant:
-        (label: *const u8, length: usize, instant: *mut i64);
 }

@@ -304,7 +304,7 @@ pub fn read_instant(label: &[u8]) -> Answer<i64> {
         if wanted == b'd' && byte.is_ascii_digit() {
             let field = fields.last_mut().expect("never empty");
             *field = *field * 10 + i64::from(byte - b'0');
-        } else if wanted != b'd' && (byte == wanted || wanted.is_ascii_uppercase() && byte == wanted.to_ascii_lowercase()) {
+        } else if wanted != b'd' && [wanted, wanted.to_ascii_lowercase()].contains(&byte) {
             fields.push(0);
         } else {
             return Refused(8);
