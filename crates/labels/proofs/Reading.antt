@@ -10,11 +10,11 @@ use Rattle.refusal.specs.Outcome.{refused}
 use Rattle.labels.specs.Clock.{colon, point}
 use Rattle.labels.specs.Digits.{number, numberAt, letterT, letterZ, fitsOne, fits}
 use Rattle.labels.specs.Rfc3339.{dash, labelLength, decimals, dateShape, timeShape, readFields, readAnswer}
-use Rattle.labels.specs.Words.{word, partOf, OneWord, textOf, readValues, pairOf, numberOf, Thousandths}
+use Rattle.labels.specs.Words.{word, partOf, OneWord, textOf, readValues, pairOf, numberOf, ClockValues, Thousandths}
 use Rattle.labels.specs.declared.digits.Values.the-variants.{Read, Malformed}
 use Rattle.labels.specs.Parts.{joined, joinedValues, readTime}
 use Rattle.labels.proofs.Shapes.{uneven, fits-from, fits-overlap}
-use Rattle.labels.proofs.Words.{AllLe, part-length, part-le, part-three, part-four, all-bytes}
+use Rattle.labels.proofs.Words.{AllLe, part-length, part-le, part-two, part-three, part-four, all-bytes}
 use Rattle.labels.proofs.Gaps.{all-near}
 use Rattle.labels.proofs.ReadValues.{ValuesRead, both-read, none-read, number-four, part-number}
 use Rattle.labels.proofs.Thousandths.{number-is}
@@ -88,6 +88,24 @@ module _ (label : List ℕ) where
 
 -- ---- the time
 
+-- the values of `HH:MM:SS`
+clock-values :
+    (a b m c d n e f : ℕ) {v : ℕ} → ValuesRead clockShape (a ∷ b ∷ m ∷ c ∷ d ∷ n ∷ e ∷ f ∷ []) v → ClockValues v
+clock-values a b m c d n e f r =
+    let near = all-near clockShape (a ∷ b ∷ m ∷ c ∷ d ∷ n ∷ e ∷ f ∷ []) refl (r .shape-fits) in
+    record {
+      hour-tens = a - 48;
+      hour-ones = b - 48;
+      minute-tens = c - 48;
+      minute-ones = d - 48;
+      second-tens = e - 48;
+      second-ones = f - 48;
+      hours-le = (near .0, near .1 .0);
+      minutes-le = (near .1 .1 .1 .0, near .1 .1 .1 .1 .0);
+      seconds-le = (near .1 .1 .1 .1 .1 .1 .0, near .1 .1 .1 .1 .1 .1 .1 .0);
+      values-are = omega (arith, r .values-are, near .1 .1 .0, near .1 .1 .1 .1 .1 .0);
+    }
+
 -- the values of `.mmm`
 module _ (a b c d : ℕ) {v : ℕ} (r : ValuesRead fractionShape (a ∷ b ∷ c ∷ d ∷ []) v) where
   abbrev pub decimals-read : Thousandths v
@@ -146,6 +164,12 @@ module _ (part : List ℕ) (l : length part ≡ 14) where
     wrong-digits e =
         unless _ time-by-parts
         (ap (λ t. fitsOne letterT (getD part 0 0) && (t && fitsOne letterZ (getD part 13 0))) e ∙ and-false (fitsOne letterT (getD part 0 0)))
+
+  pub clock-read : {v : ℕ} → ValuesRead clockShape (partOf 1 8 part) v → ClockValues v
+  clock-read {v} r =
+      let bytes = part-two 1 4 4 part ∙ ap₂ _++_ (part-four 1 part (omega arith)) (part-four 5 part (omega arith)) in
+      clock-values (getD part 1 0) (getD part 2 0) (getD part 3 0) (getD part 4 0) (getD part 5 0) (getD part 6 0) (getD part 7 0) (getD part 8 0)
+      (subst (λ t. ValuesRead clockShape t v) bytes r)
 
   -- its four bytes
   fraction-bytes :

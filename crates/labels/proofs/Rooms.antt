@@ -37,14 +37,14 @@ top-step :
     bitAnd (word (b ∷ bs)) (word (replicate (suc n) 128)) ≡ bitAnd (word bs) (word (replicate n 128)) * 256 + bitAnd b 128
 top-step n b bs h = let l : b < 256 = omega arith in and-block 8 (word bs) (word (replicate n 128)) b 128 l (lit< tt)
 
-low-clear : (l : List ℕ) (n : ℕ) → length l ≤ n → AllLe 127 l → bitAnd (word l) (word (replicate n 128)) ≡ 0
+pub low-clear : (l : List ℕ) (n : ℕ) → length l ≤ n → AllLe 127 l → bitAnd (word l) (word (replicate n 128)) ≡ 0
 low-clear [] n h a = and-zero-l (word (replicate n 128))
 low-clear (b ∷ bs) zero h a = absurd (omega arith)
 low-clear (b ∷ bs) (suc n) h a =
     let k = a .0 in
     top-step n b bs (omega arith) ∙ ap₂ (λ x y. x * 256 + y) (low-clear bs n (omega arith) (a .1)) (no-top b k)
 
-clear-low : (l : List ℕ) (n : ℕ) → length l ≤ n → AllLe 255 l → bitAnd (word l) (word (replicate n 128)) ≡ 0 → AllLe 127 l
+pub clear-low : (l : List ℕ) (n : ℕ) → length l ≤ n → AllLe 255 l → bitAnd (word l) (word (replicate n 128)) ≡ 0 → AllLe 127 l
 clear-low [] n h a e = tt
 clear-low (b ∷ bs) zero h a e = absurd (omega arith)
 clear-low (b ∷ bs) (suc n) h a e =

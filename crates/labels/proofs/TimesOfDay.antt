@@ -1,11 +1,13 @@
 -- The time of day of the values of `HH:MM:SS` and of `.mmm`.
-use Prim.Native.Nat.{ℕ, _+_, _*_, _/_, _%_, _≤_, _<_}
+use Prim.Native.Nat.{ℕ, suc, _+_, _*_, _/_, _%_, _≤_, _<_, _^_}
 use mathlib.Core.Path.{_≡_, refl, sym, ap, ap₂, _∙_}
 use mathlib.Core.Bool.{Bool, true, false, cond, _||_}
+use mathlib.Core.List.{List, [], _∷_}
 use native.Mathlib.Omega.{arith}
 use lib.Bits.{bitAnd, and-block, and-mask}
 use lib.Dec.{lit<}
 use lib.IntN.{pos}
+use lib.ListN.{getD}
 use Rattle.refusal.specs.Outcome.{value, refused}
 use Rattle.numbers.proofs.Between.{inside-pos}
 use Rattle.instant.specs.Units.{perSecond, perMinute, perHour}
@@ -13,7 +15,10 @@ use Rattle.instant.specs.Instant.{timeOfFields}
 use Rattle.instant.specs.Answers.{badTime}
 use Rattle.instant.specs.Checked.{timeAnswer}
 use Rattle.instant.proofs.Times.{natural}
-use Rattle.labels.specs.Words.{byteOf}
+use Rattle.labels.specs.Words.{word, byteOf, pairOf, ClockValues}
+use Rattle.labels.proofs.Words.{AllLe}
+use Rattle.labels.proofs.Rooms.{highest, low-clear, clear-low}
+use Rattle.labels.proofs.ReadValues.{pair-at}
 
 -- the first and the fourth byte of some pairs, as 60 times the first and the fourth
 pub minutes-are : (pairs : ℕ) → bitAnd pairs 4278190335 * 1006632961 / 16777216 % 65536 ≡ byteOf pairs 0 * 60 + byteOf pairs 3
@@ -31,6 +36,46 @@ minutes-are pairs =
     times m h k l =
         let q : (m * 16777216 + h) * 1006632961 / 16777216 ≡ 1006632961 * m + 60 * h = omega arith in
         ap (λ n. n % 65536) q ∙ omega arith
+
+-- ---- the values of a clock
+
+module _ {values : ℕ} (c : ClockValues values) where
+  abbrev digits : List ℕ
+  digits = c .hour-tens ∷ c .hour-ones ∷ 0 ∷ c .minute-tens ∷ c .minute-ones ∷ 0 ∷ c .second-tens ∷ c .second-ones ∷ []
+
+  nines : AllLe 9 digits
+  nines = (c .hours-le .0, (c .hours-le .1, (omega arith, (c .minutes-le .0, (c .minutes-le .1, (omega arith, (c .seconds-le .0, (c .seconds-le .1, tt))))))))
+
+  pub small-clock : values < 2 ^ 60
+  small-clock = omega (arith, c .values-are, c .hours-le .0, c .hours-le .1, c .minutes-le .0, c .minutes-le .1, c .seconds-le .0, c .seconds-le .1)
+
+  pair-is : (k : ℕ) → pairOf values k ≡ getD digits k 0 * 10 + getD digits (suc k) 0
+  pair-is k = ap (λ v. pairOf v k) (c .values-are) ∙ pair-at digits k nines
+
+  -- the tens of minutes and seconds, and what stands between them
+  abbrev tens : List ℕ
+  tens = c .minute-tens ∷ c .minute-ones ∷ 0 ∷ c .second-tens ∷ []
+
+  abbrev raised-tens : List ℕ
+  raised-tens = (c .minute-tens + 122) ∷ c .minute-ones ∷ 0 ∷ (c .second-tens + 122) ∷ []
+
+  tens-are : values / 16777216 % 4294967296 + 2046820474 ≡ word raised-tens
+  tens-are =
+      omega (arith, c .values-are, c .hours-le .0, c .hours-le .1, c .minutes-le .0, c .minutes-le .1, c .seconds-le .0, c .seconds-le .1)
+
+  -- no highest bit is set exactly if both numbers are below 60
+  pub tens-small : bitAnd (values / 16777216 % 4294967296 + 2046820474) highest ≡ 0 → (pairOf values 3 ≤ 59) × (pairOf values 6 ≤ 59)
+  tens-small e =
+      let bytes : AllLe 255 raised-tens = omega (arith, c .minutes-le .0, c .minutes-le .1, c .seconds-le .0) in
+      let a = clear-low raised-tens 8 (omega arith) bytes (sym (ap (λ n. bitAnd n highest) tens-are) ∙ e) in
+      (omega (arith, pair-is 3, a .0, c .minutes-le .1), omega (arith, pair-is 6, a .1 .1 .1 .0, c .seconds-le .1))
+
+  pub small-tens : pairOf values 3 ≤ 59 → pairOf values 6 ≤ 59 → bitAnd (values / 16777216 % 4294967296 + 2046820474) highest ≡ 0
+  small-tens m s =
+      let low : AllLe 127 raised-tens = omega (arith, pair-is 3, pair-is 6, c .minutes-le .1) in
+      ap (λ n. bitAnd n highest) tens-are ∙ low-clear raised-tens 8 (omega arith) low
+
+-- ---- fields
 
 module _ (hour minute second thousandths : ℕ) where
   -- fields of which one is too large

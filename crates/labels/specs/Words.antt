@@ -67,6 +67,19 @@ abbrev pub numberOf : (values count : ℕ) → ℕ
 numberOf values zero = 0
 numberOf values (suc count) = numberOf values count * 10 + byteOf values count
 
+-- the values of `HH:MM:SS`
+pub record ClockValues (values : ℕ) : Type 0 where
+  pub hour-tens : ℕ
+  pub hour-ones : ℕ
+  pub minute-tens : ℕ
+  pub minute-ones : ℕ
+  pub second-tens : ℕ
+  pub second-ones : ℕ
+  pub hours-le : (hour-tens ≤ 9) × (hour-ones ≤ 9)
+  pub minutes-le : (minute-tens ≤ 9) × (minute-ones ≤ 9)
+  pub seconds-le : (second-tens ≤ 9) × (second-ones ≤ 9)
+  pub values-are : values ≡ word (hour-tens ∷ hour-ones ∷ 0 ∷ minute-tens ∷ minute-ones ∷ 0 ∷ second-tens ∷ second-ones ∷ [])
+
 -- the values of three digits behind a mark
 pub record Thousandths (values : ℕ) : Type 0 where
   pub tenth : ℕ

@@ -22,7 +22,7 @@ ghost use Rattle.labels.specs.Written.{writeOutcome, bytesWritten, writt
 ghost use Rattle.labels.specs.Filled.{filled};
 ghost use Rattle.labels.specs.Rfc3339.{labelLength, decimals, numbersText, labelText, instantLabel, readAnswer};
 ghost use Rattle.labels.specs.Digits.{hasSmall, fitsOne};
-ghost use Rattle.labels.specs.Words.{Thousandths};
+ghost use Rattle.labels.specs.Words.{ClockValues, Thousandths};
 ghost use Rattle.labels.specs.Parts.{Narrow, NarrowFields, DateDigits, readTime, joinedValues};
 
 // The marks, beside colon and point. The letters are written as capitals and read as either; a small one is 32 more.
@@ -169,7 +169,7 @@ fn is_letter(letter: u8, byte: u8) -> bool
 
 // The instant of a date, and of the values of `HH:MM:SS` and of `.mmm`. 2, 3, 5 as its fields.
 fn join(century: u64, year: u64, month: u64, day: u64, clock: u64, fraction: u64) -> NumberAnswer
-    requires { ⌜ DateDigits century year month day × ((clock < 2 ^ 60) × Thousandths fraction) ⌝ }
+    requires { ⌜ DateDigits century year month day × (ClockValues clock × Thousandths fraction) ⌝ }
     ensures { λ r. ⌜ numberOutcome r ≡ joinedValues (100 * century + year) month day clock fraction ⌝ }
 {
     match date::day_count(century, year, month, day) {

@@ -135,20 +135,32 @@ fn read_by_bytes(label: &[u8; INSTANT_LABEL_BYTES]) -> Result<i64, i64> {
     instant_of(date, pair(11), pair(14), pair(17), digit(20) * 100 + pair(21))
 }
 
+/// The words of eight bytes of a shape.
+const fn words(shape: &[u8; INSTANT_LABEL_BYTES]) -> [u64; 3] {
+    let mut words = [0; 3];
+    let mut place = INSTANT_LABEL_BYTES;
+    while place > 0 {
+        place -= 1;
+        words[place / 8] = words[place / 8] << 8 | shape[place] as u64;
+    }
+    words
+}
+
+/// The shape as a label of zeros; and what a value can be raised by and stay below 128, at a digit by 9 less than at a mark.
+const ZEROS: [u64; 3] = words(b"0000-00-00t00:00:00.000z");
+const ROOMS: [u64; 3] = words(b"vvvv\x7fvv\x7fvv\x7fvv\x7fvv\x7fvv\x7fvvv\x7f");
+
 /// The same, eight bytes at a time.
 #[inline(always)]
 fn read_by_words(label: &[u8; INSTANT_LABEL_BYTES]) -> Result<i64, i64> {
     const HIGH: u64 = 0x8080_8080_8080_8080;
-    let mut values = [0; 3];
+    const LETTERS: [u64; 3] = words(&SMALL);
+    let word = |at: usize| u64::from_le_bytes(label[at..at + 8].try_into().expect("eight bytes"));
+    let mut values = [word(0), word(8), word(16)];
     let mut wrong = 0;
-    for (value, at) in values.iter_mut().zip([0, 8, 16]) {
-        let word =
-            |bytes: &[u8; INSTANT_LABEL_BYTES]| u64::from_le_bytes(bytes[at..at + 8].try_into().expect("eight bytes"));
-        let text = word(label) | word(&SMALL);
-        // What is above a digit or a mark by more than 9 or 0 is raised above 127.
-        *value = text ^ word(&SHAPE.map(|mark| if mark == 0 { b'0' } else { mark }));
-        let room = word(&SHAPE.map(|mark| if mark == 0 { 127 - 9 } else { 127 }));
-        wrong |= text | value.wrapping_add(room);
+    for (place, value) in values.iter_mut().enumerate() {
+        *value = (*value | LETTERS[place]) ^ ZEROS[place];
+        wrong |= *value | value.wrapping_add(ROOMS[place]);
     }
     if wrong & HIGH != 0 {
         return Err(8);

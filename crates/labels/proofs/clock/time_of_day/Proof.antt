@@ -1,16 +1,19 @@
-use Prim.Native.Nat.{ℕ, _+_, _*_, _/_, _%_, _≤_, _<_}
+use Prim.Native.Nat.{ℕ, _+_, _*_, _/_, _%_}
 use mathlib.Core.Logic.{⊎-elim}
-use mathlib.Core.Path.{_≡_, sym, ap, _∙_}
+use mathlib.Core.Path.{_≡_, ap, _∙_}
 use native.Mathlib.Omega.{arith}
 use lib.Bits.{bitAnd, and-le-r}
+use borrow.Author.Tests.{eq-eqb, eqb-true, not-true, not-false}
+use lib.Dec.{eqb}
 use lib.IntN.{pos}
 use mir.Syntax.{w64}
 use mir.Facts.{toZ-pos}
 use Rattle.refusal.specs.Outcome.{value}
-use Rattle.labels.specs.Words.{byteOf, pairOf, numberOf}
+use Rattle.numbers.proofs.Bools.{no-both}
+use Rattle.labels.specs.Words.{pairOf, numberOf}
+use Rattle.labels.proofs.Rooms.{highest}
 use Rattle.labels.proofs.Thousandths.{number-small}
-use Rattle.labels.proofs.TimesOfDay.{minutes-are, no-time, time-is}
-use borrow.Author.Tests.{ltb-true, ltb-false}
+use Rattle.labels.proofs.TimesOfDay.{minutes-are, small-clock, tens-small, small-tens, no-time, time-is}
 use borrow.Author.Needs.{needs}
 use Rattle.labels.proofs.clock.time_of_day.Statement.{statement}
 use Rattle.labels.proofs.clock.time_of_day.Tie as tie
@@ -22,65 +25,84 @@ minutes clock = bitAnd (clock * 10 + clock / 256) 4278190335 * 1006632961 / 1677
 minutes-is : (clock : ℕ) → minutes clock ≡ pairOf clock 0 * 60 + pairOf clock 3
 minutes-is clock = minutes-are (clock * 10 + clock / 256)
 
+-- the tens raised, of which no highest bit may be set
+abbrev bits : (clock : ℕ) → ℕ
+bits clock = bitAnd (clock / 16777216 % 4294967296 + 2046820474) highest
+
 mul-pairs : tie.Need-mul-pairs
-mul-pairs c = search needs
+mul-pairs c = omega (arith, small-clock (c .pre .0))
 
 add-pairs : tie.Need-add-pairs
-add-pairs c = search needs
+add-pairs c = omega (arith, small-clock (c .pre .0))
 
 mul-minutes : tie.Need-mul-minutes
 mul-minutes c = let v = c .args .clock in omega (arith, and-le-r (v * 10 + v / 256) 4278190335)
 
-pair-requires : tie.Need-pair-requires
-pair-requires c κs = search needs
-
-cast-second : tie.Need-cast-second
-cast-second c = search needs
-
-pair-requires-2 : tie.Need-pair-requires-2
-pair-requires-2 c κs = search needs
+add-if2 : tie.Need-add-if2
+add-if2 c = search needs
 
 returns : tie.Need-returns
 returns c =
-    let v = c .before .before .args .clock in
-    let second = c .before .pair .ensures in
-    no-time (pairOf v 0) (pairOf v 3) (pairOf v 6) (numberOf (c .before .before .args .fraction) 4)
-    (λ h m s. ⊎-elim (λ t. omega (arith, minutes-is v, t .taken, h, m))
-    (⊎-elim (λ t. omega (arith, t .1 .ensures, ltb-true 59 (t .1 .result) (t .2 .taken), m)) (λ t. omega (arith, second, ltb-true 59 (c .before .pair .result) (t .3 .taken), s))) (c .if1 .came))
+    let s = c .before in
+    let v = s .args .clock in
+    no-time (pairOf v 0) (pairOf v 3) (pairOf v 6) (numberOf (s .args .fraction) 4)
+    (λ h m k. ⊎-elim (λ t. omega (arith, minutes-is v, t .taken, h, m)) (λ t. no-both (eqb (bits v) 0) (eq-eqb (bits v) 0 (small-tens (s .pre .0) m k)) (not-true (eqb (bits v) 0) (t .1 .taken))) (c .if1 .came))
 
-mul-t6 : tie.Need-mul-t6
-mul-t6 c = search needs
+mul-t5 : tie.Need-mul-t5
+mul-t5 c = search needs
+
+pair-requires : tie.Need-pair-requires
+pair-requires c κs = (small-clock (c .before .before .pre .0), omega arith)
+
+cast-t6 : tie.Need-cast-t6
+cast-t6 c = search needs
 
 mul-t7 : tie.Need-mul-t7
 mul-t7 c = search needs
 
-add-t8 : tie.Need-add-t8
-add-t8 c = search needs
+add-t16 : tie.Need-add-t16
+add-t16 c = search needs
 
 thousandths-requires : tie.Need-thousandths-requires
 thousandths-requires c κs = search needs
 
-add-t16 : tie.Need-add-t16
-add-t16 c = search needs
+add-t18 : tie.Need-add-t18
+add-t18 c = search needs
 
-cast-t17 : tie.Need-cast-t17
-cast-t17 c = search needs
+cast-t19 : tie.Need-cast-t19
+cast-t19 c = search needs
 
 returns-2 : tie.Need-returns-2
 returns-2 c =
-    let s = c .before .before .before .before .before .before in
+    let s = c .before .before .before .before in
     let v = s .args .clock in
     let m = minutes-is v in
-    let a = c .before .before .before .before .if1 .left in
-    let p = c .before .before .before .pair2 .ensures in
-    let b = ltb-false 59 (c .before .before .before .pair2 .result) (c .before .before .if2 .left) in
-    let q = c .before .before .before .before .before .pair .ensures in
-    let d = ltb-false 59 (c .before .before .before .before .before .pair .result) (c .before .if3 .left) in
+    let a = c .before .before .before .if1 .left in
+    let t = tens-small (s .pre .0) (eqb-true (bits v) 0 (not-false (eqb (bits v) 0) (c .before .before .if2 .left))) in
+    let b = t .0 in
+    let d = t .1 in
+    let q = c .before .pair .ensures in
     let f = c .thousandths .ensures .0 in
     let k = number-small (s .pre .1) in
-    let n = minutes v * 60000 + c .before .before .before .before .before .pair .result * 1000 + c .thousandths .result in
+    let n = minutes v * 60000 + c .before .pair .result * 1000 + c .thousandths .result in
     ap value (toZ-pos w64 {n = n} (omega arith) ∙ ap pos (omega arith))
-    ∙ time-is (pairOf v 0) (pairOf v 3) (pairOf v 6) (numberOf (s .args .fraction) 4) (omega arith) (omega arith) (omega arith) k
+    ∙ time-is (pairOf v 0) (pairOf v 3) (pairOf v 6) (numberOf (s .args .fraction) 4) (omega arith) b d k
 
 pub time-of-day-spec : {M : Type 1} → statement M
-time-of-day-spec = tie.close (tie.spec mul-pairs add-pairs mul-minutes pair-requires cast-second pair-requires-2 returns mul-t6 mul-t7 add-t8 thousandths-requires add-t16 cast-t17 returns-2)
+time-of-day-spec =
+    tie.close
+    (tie.spec
+    mul-pairs
+    add-pairs
+    mul-minutes
+    add-if2
+    returns
+    mul-t5
+    pair-requires
+    cast-t6
+    mul-t7
+    add-t16
+    thousandths-requires
+    add-t18
+    cast-t19
+    returns-2)

@@ -4,7 +4,7 @@ use mathlib.Core.Path.{_≡_, refl, sym, ap, _∙_}
 use native.Mathlib.Omega.{arith}
 use Rattle.labels.proofs.Words.{bytes}
 use Rattle.labels.proofs.ReadValues.{ValuesRead}
-use Rattle.labels.proofs.Reading.{clockShape, fractionShape, two-read, two-wrong, wrong-first, wrong-last, wrong-digits, fraction-read, time-read}
+use Rattle.labels.proofs.Reading.{clockShape, fractionShape, two-read, two-wrong, wrong-first, wrong-last, wrong-digits, clock-read, fraction-read, time-read}
 use Rattle.labels.specs.Words.{partOf, OneWord}
 use borrow.Author.Needs.{needs}
 use Rattle.labels.proofs.rfc3339.read_time.Statement.{statement}
@@ -100,7 +100,7 @@ returns-3 c =
 join-requires : tie.Need-join-requires
 join-requires c κs =
     let s = start (c .before .before .before .before) in
-    (s .pre .0, (read-both c .0 .small, fraction-read (s .args .part .now) (s .pre .1) (read-both c .1)))
+    (s .pre .0, (clock-read (s .args .part .now) (s .pre .1) (read-both c .0), fraction-read (s .args .part .now) (s .pre .1) (read-both c .1)))
 
 returns-4 : tie.Need-returns-4
 returns-4 c =
