@@ -161,7 +161,7 @@ static inline const char *ovenquill_refusal_text(int64_t answer)
         return "buffer shorter than the label";
     case OVENQUILL_MALFORMED_LABEL:
         return "label not " OVENQUILL_TEXT_(OVENQUILL_INSTANT_LABEL_BYTES)
-               " bytes, a non-digit where a digit stands, or a wrong mark; T and Z may be small";
+               " bytes, a non-digit where a digit stands, or a wrong mark (T and Z may be small)";
     case OVENQUILL_CONSTANT_OUT_OF_LIMITS:
         return "a constant, a search end or a claimed bound outside its limits";
     case OVENQUILL_DIFFERENCE_BELOW_BOUND:

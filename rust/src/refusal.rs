@@ -107,7 +107,7 @@ refusals! {
     BufferTooShort = 7, ("buffer shorter than the label");
     /// A label of another length or shape than the writer's; but its letters may be small.
     MalformedLabel = 8, (
-        "label not {INSTANT_LABEL_BYTES} bytes, a non-digit where a digit stands, or a wrong mark; T and Z may be small"
+        "label not {INSTANT_LABEL_BYTES} bytes, a non-digit where a digit stands, or a wrong mark (T and Z may be small)"
     );
     /// A constant outside [`Constants::LEAST`](crate::Constants::LEAST) and
     /// [`Constants::LARGEST`](crate::Constants::LARGEST), an end outside [`SEARCH_ENDS`](crate::SEARCH_ENDS) or a bound
