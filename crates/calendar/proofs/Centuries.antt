@@ -11,7 +11,7 @@ use borrow.Author.Tests.{eqb-true, eqb-false}
 use mir.Val.{boolByte}
 use Rattle.refusal.specs.Outcome.{value, refused}
 use Rattle.numbers.specs.Range.{outside, since}
-use Rattle.numbers.proofs.Between.{natural-within, inside-pos, inside-from}
+use Rattle.numbers.proofs.Between.{inside-pos, outside-pos, inside-from}
 use Rattle.calendar.specs.Range.{firstYear, lastYear}
 use Rattle.calendar.specs.Gregorian.{monthLength, dateOf}
 use Rattle.calendar.specs.Count.{countOfDate}
@@ -90,14 +90,6 @@ cyclesToZero = yearZero / cycleYears
 
 abbrev pub countZero : ℤ
 countZero = baseCount +ℤ pos (cyclesToZero * cycle)
-
--- a natural number that does not lie in a..b
-outside-pos : (a b n : ℕ) → (a ≤ n → n ≤ b → ⊥) → outside (pos a) (pos b) (pos n) ≡ true
-outside-pos a b n none = go (outside (pos a) (pos b) (pos n)) refl
-  where
-    go : (t : Bool) → outside (pos a) (pos b) (pos n) ≡ t → t ≡ true
-    go true e = refl
-    go false e = let w = natural-within a (pos b) (pos n) e in absurd (none (w .low) (w .high))
 
 -- a date whose year is not below zero, and not above the last
 module _ (y m d : ℕ) (h : yearZero + y ≤ toYear) where

@@ -2,21 +2,19 @@
 use Prim.Native.Nat.{ℕ, _+_}
 use mathlib.Core.Path.{_≡_, refl, sym, ap, ap₂, _∙_}
 use mathlib.Core.Logic.{_↔_}
-use mathlib.Core.Bool.{Bool, true, false, cond, _&&_, _||_, and-true, and-false}
+use mathlib.Core.Bool.{Bool, true, false, cond, _&&_, _||_, and-false}
 use mathlib.Core.List.{List, [], _∷_, _++_}
 use native.Mathlib.Omega.{arith}
-use borrow.Author.Tests.{eqb-true, eq-eqb}
 use lib.Dec.{eqb}
 use lib.IntN.{ℤ}
-use lib.ListN.{getD, drop}
+use lib.ListN.{drop}
 use Rattle.refusal.specs.Outcome.{value, refused}
-use Rattle.refusal.proofs.Outcomes.{clash}
-use Rattle.numbers.proofs.Bools.{no-both, or-no, and-left, and-right}
+use Rattle.numbers.proofs.Bools.{no-both, or-no}
 use Rattle.labels.specs.Clock.{colon, clockText}
-use Rattle.labels.specs.Digits.{digits, isDigit, letterT, letterZ, hasSmall, small, fitsOne, fits}
+use Rattle.labels.specs.Digits.{digits, isDigit, letterT, letterZ, small, fitsOne, fits}
 use Rattle.labels.specs.Words.{simple}
-use Rattle.labels.specs.Rfc3339.{decimals, dateShape, timeShape, readFields, readAnswer, instantLabel}
-use Rattle.labels.specs.Capitals.{capital, inCapitals, fitsExactly, capitalsAnswer, shapeWith, isSmallForm}
+use Rattle.labels.specs.Rfc3339.{decimals, dateShape, timeShape, readFields, readAnswer}
+use Rattle.labels.specs.Capitals.{inCapitals, fitsExactly, capitalsAnswer, isSmallForm}
 use Rattle.labels.proofs.OneByte.{one-byte}
 use Rattle.labels.proofs.Gaps.{simple-first, simple-rest}
 use Rattle.labels.proofs.Laws.{eight-exactly, shaped-refusal, write-read, read-write}

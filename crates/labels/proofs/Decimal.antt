@@ -3,8 +3,7 @@ use Prim.Native.Nat.{ℕ, zero, suc, _+_, _-_, _*_, _/_, _%_, _^_, _≤_, _<_}
 use mathlib.Core.Path.{_≡_, refl, sym, ap, ap₂, _∙_}
 use mathlib.Core.Bool.{true, _&&_, and-true, and-assoc}
 use mathlib.Core.List.{List, [], _∷_, _++_, append-nil}
-use native.Mathlib.Nat.{pow-suc, pow-le-pow-right}
-use native.Mathlib.Numerals.{add-one}
+use native.Mathlib.Nat.{pow-suc}
 use native.Mathlib.Omega.{arith}
 use borrow.Author.Tests.{leb-true, le-leb}
 use lib.Dec.{leb, lit<}
@@ -13,14 +12,6 @@ use lib.Seq.{append-snoc, drop-append-le}
 use Rattle.numbers.proofs.Bools.{and-left, and-right}
 use Rattle.labels.specs.Digits.{digits, numberFrom, number, isDigit}
 use Rattle.labels.specs.Stamps.{allDigits}
-
--- ---- powers of ten
-
-pub power-suc : (i : ℕ) → 10 ^ (i + 1) ≡ 10 ^ i * 10
-power-suc i = rw add-one (pow-suc 10 i)
-
-pub power-small : (i : ℕ) → i ≤ 7 → 10 ^ i ≤ 10000000
-power-small i h = pow-le-pow-right {n = 10} (lit< tt) h
 
 -- ---- a digit
 

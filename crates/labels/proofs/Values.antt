@@ -6,9 +6,8 @@ use mathlib.Core.List.{List, [], _∷_}
 use native.Mathlib.Omega.{arith}
 use lib.Bits.{bitAnd, bitOr, bitXor}
 use lib.ListN.{length, length-map}
-use Rattle.numbers.proofs.Bools.{and-left, and-right}
 use Rattle.labels.specs.Digits.{fits}
-use Rattle.labels.specs.Words.{word, bytesOf, simple, roomOne, rooms, OneWord, above, textOf, readValues}
+use Rattle.labels.specs.Words.{word, roomOne, rooms, OneWord, above, textOf, readValues}
 use Rattle.labels.specs.declared.digits.Values.the-variants.{Read, Malformed}
 use Rattle.labels.proofs.Words.{AllLe, length-bytes, bytes-le, word-bytes}
 use Rattle.labels.proofs.Gaps.{gaps, simple-low, AllNear, all-near, gaps-are, near-all-fit}

@@ -88,9 +88,6 @@ part-length at count text h = length-take-le count (drop at text) (omega (arith,
 pub part-at : (at count : ℕ) (text : List ℕ) (i : ℕ) → i < count → getD (partOf at count text) i 0 ≡ getD text (at + i) 0
 part-at at count text i h = getD-take count (drop at text) i 0 h ∙ getD-drop at text i 0
 
-pub part-whole : (text : List ℕ) → partOf 0 (length text) text ≡ text
-part-whole text = take-length text
-
 pub part-le : (limit at count : ℕ) (text : List ℕ) → AllLe limit text → AllLe limit (partOf at count text)
 part-le limit at count text a = take-le count (drop at text) (drop-le limit at text a)
   where

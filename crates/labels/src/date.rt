@@ -8,18 +8,19 @@ ghost use lib.IntN.{pos};
 ghost use Rattle.refusal.specs.Outcome.{numberOutcome};
 ghost use Rattle.calendar.specs.Closed.{leapDay, monthDays, before};
 ghost use Rattle.calendar.specs.Answers.{daysAnswer};
+ghost use Rattle.labels.specs.Parts.{DateDigits};
 
-// Four centuries have so many days, and four years; a quarter, rounded down, is what stands before a year of a century.
+// The days of four centuries, and of four years of one.
 const FOUR_CENTURIES: u64 = 146097;
 
 const FOUR_YEARS: u64 = 1461;
 
-// 1970-01-01, counted from the day before the year 0.
+// The number of 1970-01-01, where 0000-01-01 has 1.
 const EPOCH: i64 = 719529;
 
 // The day count of a date whose year is 100 times the century and the year of it. 2 and 3 as the calendar, and never 1.
 pub fn day_count(century: u64, year: u64, month: u64, day: u64) -> NumberAnswer
-    requires { ⌜ (century < 100) × ((year < 100) × ((month < 100) × (day < 100))) ⌝ }
+    requires { ⌜ DateDigits century year month day ⌝ }
     ensures { λ r. ⌜ numberOutcome r ≡ daysAnswer (pos (100 * century + year)) (pos month) (pos day) ⌝ }
 {
     if month < 1 || month > 12 {
@@ -29,6 +30,7 @@ pub fn day_count(century: u64, year: u64, month: u64, day: u64) -> NumberAnswer
     if day < 1 || day > entry % 32 {
         return NumberAnswer::Refused(Refusal::DayOutOfRange);
     }
+    // The quarters, rounded down, are the days before the year but for one in a common year, which the entry has.
     let days = FOUR_CENTURIES * century / 4 + FOUR_YEARS * year / 4 + entry / 32 + day;
     NumberAnswer::Value(days as i64 - EPOCH)
 }
@@ -42,8 +44,7 @@ fn leap_day(century: u64, year: u64) -> u64
     (n % 4 == 0) as u64
 }
 
-// A month's length, and 32 times the days before it, one more in a common year, since a quarter of the years before it has been
-// rounded down.
+// The length of a month, and 32 times the days of the year before it, one more of these in a common year.
 fn month_entry(leap: u64, month: u64) -> u64
     requires { ⌜ (leap ≤ 1) × ((1 ≤ month) × (month ≤ 12)) ⌝ }
     ensures { λ r. ⌜ (r ≡ 32 * (before leap month + 1 - leap) + monthDays leap month) × (r < 12000) ⌝ }

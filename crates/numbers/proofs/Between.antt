@@ -1,7 +1,7 @@
 -- What a range test that code has made says of the number.
 use Prim.Native.Nat.{ℕ, _+_, _≤_, _<_, _^_}
 use mathlib.Core.Path.{_≡_, refl, sym, ap, _∙_, subst}
-use mathlib.Core.Bool.{true, false}
+use mathlib.Core.Bool.{Bool, true, false}
 use native.Mathlib.Omega.{arith}
 use lib.IntN.{ℤ, pos, negsuc, natAbs, _+ℤ_}
 use lib.Dec.{T}
@@ -61,6 +61,14 @@ as-signed h = toZ-pos w64 (omega (arith, h .fits))
 -- numbers that lie in a range, as natural numbers and from any first number on
 pub inside-pos : (a b n : ℕ) → a ≤ n → n ≤ b → outside (pos a) (pos b) (pos n) ≡ false
 inside-pos a b n h k = not-outside (pos a) (pos b) (pos n) (le-ltb n a h) (le-ltb b n k)
+
+-- and one that does not
+pub outside-pos : (a b n : ℕ) → (a ≤ n → n ≤ b → ⊥) → outside (pos a) (pos b) (pos n) ≡ true
+outside-pos a b n none = go (outside (pos a) (pos b) (pos n)) refl
+  where
+    go : (t : Bool) → outside (pos a) (pos b) (pos n) ≡ t → t ≡ true
+    go true e = refl
+    go false e = let w = natural-within a (pos b) (pos n) e in absurd (none (w .low) (w .high))
 
 pub inside-from : (first : ℤ) (a b n : ℕ) → a ≤ n → n ≤ b → outside (first +ℤ pos a) (first +ℤ pos b) (first +ℤ pos n) ≡ false
 inside-from first a b n h k =

@@ -1,5 +1,4 @@
 use Prim.Native.Nat.{_+_, _*_, _/_}
-use mathlib.Core.Path.{subst, sym}
 use native.Mathlib.Omega.{arith}
 use lib.Bits.{and-le-r}
 use Rattle.labels.proofs.Thousandths.{small-values, product-number, number-small}

@@ -1,7 +1,7 @@
 use Prim.Native.Nat.{_+_, _-_, _*_}
 use lib.ListN.{length, take, drop}
 use Rattle.labels.specs.Parts.{readTime}
-use mathlib.Core.Path.{_≡_, refl, sym, ap, _∙_}
+use mathlib.Core.Path.{refl, sym, _∙_}
 use native.Mathlib.Omega.{arith}
 use Rattle.labels.proofs.Words.{bytes}
 use Rattle.labels.proofs.ReadValues.{ValuesRead}

@@ -1,6 +1,6 @@
 use Prim.Native.Nat.{_+_, _*_}
 use borrow.Author.Tests.{not-true, not-false}
-use mathlib.Core.Path.{_≡_, refl, sym, ap, _∙_}
+use mathlib.Core.Path.{refl, sym, _∙_}
 use native.Mathlib.Omega.{arith}
 use Rattle.labels.proofs.Words.{bytes}
 use Rattle.labels.proofs.ReadValues.{ValuesRead}
