@@ -22,6 +22,7 @@ use random::Random;
 use rivals::calendar::{BY_DIVISIONS, BY_SHIFTS};
 #[cfg(chrono)]
 use rivals::chrono;
+use rivals::labels::{BY_BYTES, BY_CENTURY, BY_WORDS};
 #[cfg(lengths)]
 use rivals::lengths;
 use rivals::{calendar, constants, instants, labels};
@@ -303,7 +304,11 @@ fn label_lines() {
             what,
             &Inputs::of(inputs),
             raw::ovenquill_read_instant,
-            &[(BY_HAND, labels::read_instant::<false>), ("Rust, eight bytes at a time", labels::read_instant::<true>)],
+            &[
+                (BY_HAND, labels::read_instant::<BY_BYTES>),
+                ("Rust, eight bytes at a time", labels::read_instant::<BY_WORDS>),
+                ("Rust, the library's steps", labels::read_instant::<BY_CENTURY>),
+            ],
         );
     }
 }

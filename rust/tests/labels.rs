@@ -1,5 +1,6 @@
 //! Labels: the writers of instant and position labels against `write!` and `format!`, the reader against a checker that goes
-//! byte by byte (tests/support/plain.rs), all three against document 01's rows, and the labels that are held by value.
+//! byte by byte (tests/support/plain.rs), all three against document 01's rows, small letters, and the labels that are held
+//! by value.
 
 mod support;
 
@@ -259,9 +260,11 @@ fn several_bytes_damaged() {
 fn every_value_of_every_field() {
     let mut text = String::new();
     let mut read = |date: &str, time: &str| {
-        text.clear();
-        text.extend([date, "T", time, "Z"]);
-        try_reading(text.as_bytes());
+        for [t, z] in [["T", "Z"], ["T", "z"], ["t", "Z"], ["t", "z"]] {
+            text.clear();
+            text.extend([date, t, time, z]);
+            try_reading(text.as_bytes());
+        }
     };
     for year in FIRST_YEAR..=LAST_YEAR {
         for month_day in ["01-01", "02-28", "02-29", "02-30", "04-31", "12-31", "13-01", "00-00"] {
@@ -298,8 +301,10 @@ fn the_reader_refuses_in_order() {
         (b"2023-05-10T14:30:00.000", 8),
         (b"2023-05-10T14:30:00.000Z0", 8),
         (b"2023-05-10 14:30:00.000Z", 8),
-        (b"2023-05-10Z14:30:00.000T", 8),
-        (b"2023-05-10z14:30:00.000t", 8),
+        (b"2023-05-10Z14:30:00.000Z", 8),
+        (b"2023-05-10z14:30:00.000z", 8),
+        (b"2023-05-10T14:30:00.000T", 8),
+        (b"2023-05-10t14:30:00.000t", 8),
         (b"2023-05-10\xd414:30:00.000Z", 8),
         (b"2023-05-10T14:30:00.000\xfa", 8),
         (b"2023-05-10T14:30:00.00tZ", 8),

@@ -1,5 +1,5 @@
-//! The refusals: their numbers and words, and a call that gives each, against document 01's table, which change request One
-//! adds to.
+//! The refusals: their numbers and words, and a call that gives each, against document 01's table, which change requests One
+//! and Three change.
 
 mod support;
 

@@ -1,9 +1,9 @@
 /*
  * Document 01 and change requests One and Three in plain C, written from their text and sharing nothing with the library:
  * years are counted one by one, labels go by snprintf, the reader of instants goes byte by byte, the readers of timestamps and
- * cue lines take one part after the other, and the constants go by trying every n. Each call here has the answer, and leaves in what it
- * is lent the bytes, that the library's call of the same name must have and leave: a date is three numbers, fields are seven,
- * a cue is two.
+ * cue lines take one part after the other, and the constants go by trying every n. Each call here has the answer, and leaves
+ * in what it is lent the bytes, that the library's call of the same name must have and leave: a date is three numbers, fields
+ * are seven, a cue is two.
  */
 #ifndef PLAIN_H
 #define PLAIN_H

@@ -114,8 +114,11 @@ static void check_small_letters(void)
     check_letters('T', 'z', 0);
     check_letters('t', 'Z', 0);
     check_letters('t', 'z', 0);
-    check_letters('Z', 'T', OVENQUILL_MALFORMED_LABEL);
-    check_letters('z', 't', OVENQUILL_MALFORMED_LABEL);
+    /* Z in the middle, T at the end, and a space */
+    check_letters('Z', 'Z', OVENQUILL_MALFORMED_LABEL);
+    check_letters('z', 'z', OVENQUILL_MALFORMED_LABEL);
+    check_letters('T', 'T', OVENQUILL_MALFORMED_LABEL);
+    check_letters('t', 't', OVENQUILL_MALFORMED_LABEL);
     check_letters(' ', 'z', OVENQUILL_MALFORMED_LABEL);
     /* T and Z with other bits changed than that of small letters */
     check_letters('\xd4', 'Z', OVENQUILL_MALFORMED_LABEL);
@@ -235,5 +238,5 @@ int main(void)
     check_timestamps();
     check_cues();
     check_all_constants();
-    return finish("document 01's and change request One's numbers");
+    return finish("the numbers of document 01 and of change requests One and Three");
 }

@@ -1,27 +1,28 @@
--- Small letters: what the reader takes beside the labels in capitals, and that it answers to these what it answered before.
-use Prim.Native.Nat.{ℕ, _+_}
+-- Small letters: every label is answered as document 01's reader answers it in capitals, and refusal 8 shrinks by the forms with small
+-- letters.
+use Prim.Native.Nat.{ℕ}
 use mathlib.Core.Path.{_≡_, refl, sym, ap, ap₂, _∙_}
-use mathlib.Core.Logic.{_↔_}
-use mathlib.Core.Bool.{Bool, true, false, cond, _&&_, _||_, and-false}
+use mathlib.Core.Logic.{_↔_, ⊎-elim}
+use mathlib.Core.Bool.{Bool, true, false, cond, not, _&&_, _||_, and-false}
 use mathlib.Core.List.{List, [], _∷_, _++_}
-use native.Mathlib.Omega.{arith}
+use borrow.Author.Tests.{eqb-true, eqb-false, ne-eqb, not-true}
 use lib.Dec.{eqb}
 use lib.IntN.{ℤ}
 use lib.ListN.{drop}
-use Rattle.refusal.specs.Outcome.{value, refused}
-use Rattle.numbers.proofs.Bools.{no-both, or-no}
+use Rattle.refusal.specs.Outcome.{Outcome, refused}
+use Rattle.numbers.proofs.Bools.{no-both, or-no, and-left, and-right}
 use Rattle.labels.specs.Clock.{colon, clockText}
-use Rattle.labels.specs.Digits.{digits, isDigit, letterT, letterZ, small, fitsOne, fits}
+use Rattle.labels.specs.Digits.{digits, isDigit, letterT, letterZ, hasSmall, small, isMark, fitsOne, fits}
 use Rattle.labels.specs.Words.{simple}
 use Rattle.labels.specs.Rfc3339.{decimals, dateShape, timeShape, readFields, readAnswer}
-use Rattle.labels.specs.Capitals.{inCapitals, fitsExactly, capitalsAnswer, isSmallForm}
+use Rattle.labels.specs.Capitals.{capital, inCapitals, fitsExactly, capitalsAnswer, isSmallForm}
+use Rattle.labels.specs.Timings.{letter-is}
 use Rattle.labels.proofs.OneByte.{one-byte}
 use Rattle.labels.proofs.Gaps.{simple-first, simple-rest}
-use Rattle.labels.proofs.Laws.{eight-exactly, shaped-refusal, write-read, read-write}
+use Rattle.labels.proofs.Laws.{capitals-fields, eight-if, eight-exactly}
 
 -- ---- the four forms
 
--- a shape with letters behind one without: as many forms as the letters have
 distribute : (c p q : Bool) → c && (p || q) ≡ (c && p) || (c && q)
 distribute true p q = refl
 distribute false p q = refl
@@ -77,6 +78,56 @@ module _ (back : List ℕ) (q : simple back ≡ true) where
       go true u v w x = refl
       go false u v w x = refl
 
+-- ---- capitals
+
+-- a byte that fits, made capital
+one-capital :
+    (s b : ℕ) → eqb s (small letterT) ≡ false → eqb s (small letterZ) ≡ false → fitsOne s b ≡ cond (eqb s 48) (isDigit (capital b)) (eqb (capital b) s)
+one-capital s b no-t no-z = go (eqb b (small letterT)) (eqb b (small letterZ)) refl refl
+  where
+    -- of a small letter
+    of : (letter : ℕ) → isDigit (small letter) ≡ false → isDigit letter ≡ false → eqb s (small letter) ≡ false →
+        (s ≡ letterT → isMark s (small letter) ≡ eqb letter s) → (s ≡ letterZ → isMark s (small letter) ≡ eqb letter s) →
+        (hasSmall letter ≡ true) → fitsOne s (small letter) ≡ cond (eqb s 48) (isDigit letter) (eqb letter s)
+    of letter d e n t z l = ap₂ (cond (eqb s 48)) (d ∙ sym e) (by (hasSmall s) refl)
+      where
+        by : (u : Bool) → hasSmall s ≡ u → isMark s (small letter) ≡ eqb letter s
+        by true h = ⊎-elim t z (letter-is s h)
+        by false h =
+            ap (λ u. (u && eqb (small letter) (small s)) || eqb (small letter) s) h
+            ∙ ne-eqb (small letter) s (λ x. eqb-false s (small letter) n (sym x))
+            ∙ sym (ne-eqb letter s (λ x. no-both (hasSmall letter) l (ap hasSmall x ∙ h)))
+
+    go : (p q : Bool) → eqb b (small letterT) ≡ p → eqb b (small letterZ) ≡ q →
+        fitsOne s b ≡ cond (eqb s 48) (isDigit (cond p letterT (cond q letterZ b))) (eqb (cond p letterT (cond q letterZ b)) s)
+    go true q e f =
+        ap (fitsOne s) (eqb-true b (small letterT) e)
+        ∙ of letterT refl refl no-t (λ x. ap (λ s. isMark s (small letterT)) x ∙ sym (ap (eqb letterT) x)) (λ x. ap (λ s. isMark s (small letterT)) x ∙ sym (ap (eqb letterT) x)) refl
+    go false true e f =
+        ap (fitsOne s) (eqb-true b (small letterZ) f)
+        ∙ of letterZ refl refl no-z (λ x. ap (λ s. isMark s (small letterZ)) x ∙ sym (ap (eqb letterZ) x)) (λ x. ap (λ s. isMark s (small letterZ)) x ∙ sym (ap (eqb letterZ) x)) refl
+    go false false e f = ap (cond (eqb s 48) (isDigit b)) (by (hasSmall s) refl)
+      where
+        by : (u : Bool) → hasSmall s ≡ u → isMark s b ≡ eqb b s
+        by true h =
+            let n = ⊎-elim (λ x. ap (λ s. eqb b (small s)) x ∙ e) (λ x. ap (λ s. eqb b (small s)) x ∙ f) (letter-is s h) in
+            ap₂ (λ u v. (u && v) || eqb b s) h n
+        by false h = ap (λ u. (u && eqb b (small s)) || eqb b s) h
+
+-- a shape that has no small t or z
+abbrev noSmall : List ℕ → Bool
+noSmall [] = true
+noSmall (s ∷ ss) = not (eqb s (small letterT) || eqb s (small letterZ)) && noSmall ss
+
+fits-capitals : (shape text : List ℕ) → noSmall shape ≡ true → fits shape text ≡ fitsExactly shape (inCapitals text)
+fits-capitals [] [] n = refl
+fits-capitals [] (b ∷ bs) n = refl
+fits-capitals (s ∷ ss) [] n = refl
+fits-capitals (s ∷ ss) (b ∷ bs) n =
+    let is-small = eqb s (small letterT) || eqb s (small letterZ) in
+    let o = or-no (eqb s (small letterT)) (eqb s (small letterZ)) (not-true is-small (and-left (not is-small) (noSmall ss) n)) in
+    ap₂ _&&_ (one-capital s b (o .0) (o .1)) (fits-capitals ss bs (and-right (not is-small) (noSmall ss) n))
+
 module _ (label : List ℕ) where
   abbrev in-shape : Bool
   in-shape = fits (dateShape ++ timeShape decimals) label
@@ -84,28 +135,37 @@ module _ (label : List ℕ) where
   abbrev exactly : Bool
   exactly = fitsExactly (dateShape ++ timeShape decimals) label
 
-  shapes : in-shape ≡ exactly || isSmallForm label
-  shapes = four-forms (digits 0 2 ++ colon ∷ clockText decimals 0 0 0) refl dateShape label refl
+  -- a label is of the shape exactly if it is in capitals, or of one of the forms with small letters
+  pub in-shape-exactly : in-shape ≡ exactly || isSmallForm label
+  in-shape-exactly = four-forms (digits 0 2 ++ colon ∷ clockText decimals 0 0 0) refl dateShape label refl
+
+  -- ---- what is read
+
+  -- every label is answered as document 01's reader answers it in capitals
+  pub read-in-capitals : readAnswer label ≡ capitalsAnswer (inCapitals label)
+  unfolding readAnswer capitalsAnswer
+  read-in-capitals = go in-shape refl ∙ ap (λ t. cond t (readFields (inCapitals label) (drop 10 (inCapitals label))) (refused 8)) in-capitals
+    where
+      in-capitals : in-shape ≡ fitsExactly (dateShape ++ timeShape decimals) (inCapitals label)
+      in-capitals = fits-capitals (dateShape ++ timeShape decimals) label refl
+
+      go : (t : Bool) → in-shape ≡ t →
+          cond in-shape (readFields label (drop 10 label)) (refused 8) ≡ cond in-shape (readFields (inCapitals label) (drop 10 (inCapitals label))) (refused 8)
+      go true h = ap (λ (z : Outcome ℤ). cond in-shape z (refused 8)) (sym (capitals-fields label h))
+      go false h = ap (λ t. cond t (readFields label (drop 10 label)) (refused 8)) h ∙ sym (ap (λ t. cond t (readFields (inCapitals label) (drop 10 (inCapitals label))) (refused 8)) h)
 
   -- ---- refusal 8
 
   -- document 01's reader refuses with 8 exactly if the label is not of its shape
   before : (capitalsAnswer label ≡ refused 8) ↔ (exactly ≡ false)
   unfolding capitalsAnswer
-  before = go exactly refl
-    where
-      go : (t : Bool) → exactly ≡ t → (cond t (readFields label (drop 10 label)) (refused 8) ≡ refused 8) ↔ (t ≡ false)
-      go true h = (
-        λ e. shaped-refusal label 8 (shapes ∙ ap (λ t. t || isSmallForm label) h) e (λ z. absurd (omega arith)) (λ z. absurd (omega arith)) (λ z. absurd (omega arith)),
-        λ f. no-both true refl f,
-      )
-      go false h = (λ e. refl, λ f. refl)
+  before = eight-if label exactly (λ h. in-shape-exactly ∙ ap (λ t. t || isSmallForm label) h)
 
   -- a label is refused with 8 exactly if it was before and is none of the forms with small letters
   pub eight-shrinks : (readAnswer label ≡ refused 8) ↔ ((capitalsAnswer label ≡ refused 8) × (isSmallForm label ≡ false))
   eight-shrinks = (
-    λ e. let n = or-no exactly (isSmallForm label) (sym shapes ∙ eight-exactly label .0 e) in (before .1 (n .0), n .1),
-    λ e. eight-exactly label .1 (shapes ∙ ap₂ _||_ (before .0 (e .0)) (e .1)),
+    λ e. let n = or-no exactly (isSmallForm label) (sym in-shape-exactly ∙ eight-exactly label .0 e) in (before .1 (n .0), n .1),
+    λ e. eight-exactly label .1 (in-shape-exactly ∙ ap₂ _||_ (before .0 (e .0)) (e .1)),
   )
 
   -- a label that was not refused with 8 is answered as before
@@ -115,11 +175,5 @@ module _ (label : List ℕ) where
     where
       go : (t : Bool) → exactly ≡ t →
           cond in-shape (readFields label (drop 10 label)) (refused 8) ≡ cond t (readFields label (drop 10 label)) (refused 8)
-      go true h = ap (λ t. cond t (readFields label (drop 10 label)) (refused 8)) (shapes ∙ ap (λ t. t || isSmallForm label) h)
+      go true h = ap (λ t. cond t (readFields label (drop 10 label)) (refused 8)) (in-shape-exactly ∙ ap (λ t. t || isSmallForm label) h)
       go false h = absurd (never (before .1 h))
-
--- ---- capitals
-
--- an accepted label in capitals is read as the same instant
-pub capitals-read : (label : List ℕ) (instant : ℤ) → readAnswer label ≡ value instant → readAnswer (inCapitals label) ≡ value instant
-capitals-read label instant e = write-read instant (inCapitals label) (read-write label instant e)

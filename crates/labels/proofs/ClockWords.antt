@@ -19,18 +19,12 @@ use Rattle.labels.proofs.Gaps.{gaps, AllNear, all-near, gaps-are, near-
 use Rattle.labels.proofs.ReadValues.{pair-at}
 use Rattle.labels.proofs.Rooms.{highest, Held, raised, or-none, low-text, text-clear, gap-word, sum-below, roomy, room-clear, fits-low}
 use Rattle.labels.proofs.Thousandths.{number-is}
-use Rattle.labels.proofs.Shapes.{fits-append}
+use Rattle.labels.proofs.Shapes.{clockShape, fractionShape, fits-append}
 use Rattle.labels.proofs.StampNumbers.{no-stamp, is-stamp}
 
-abbrev toSecondShape : List ℕ
-toSecondShape = digits 0 2 ++ colon ∷ digits 0 2 ++ colon ∷ digits 0 2
-
-abbrev fractionShape : List ℕ
-fractionShape = point ∷ digits 0 3
-
 -- 127 less 9 at a digit, less 5 at the tens of minutes and seconds, and 127 at a mark
-abbrev toSecondRooms : List ℕ
-toSecondRooms = 118 ∷ 118 ∷ 127 ∷ 122 ∷ 118 ∷ 127 ∷ 122 ∷ 118 ∷ []
+abbrev clockRooms : List ℕ
+clockRooms = 118 ∷ 118 ∷ 127 ∷ 122 ∷ 118 ∷ 127 ∷ 122 ∷ 118 ∷ []
 
 abbrev fractionRooms : List ℕ
 fractionRooms = 127 ∷ 118 ∷ 118 ∷ 118 ∷ []
@@ -42,7 +36,7 @@ module _ (clock fraction : ℕ) (hc : clock < 2 ^ 64) (hf : fraction < 2 ^ 32) w
   abbrev rest : List ℕ
   rest = bytesOf 4 fraction
 
-  held-first : Held toSecondShape toSecondRooms first clock
+  held-first : Held clockShape clockRooms first clock
   held-first = record {
     is-text = sym (word-bytes 8 clock hc);
     both = (refl, (omega arith, bytes-le 8 clock));
@@ -67,13 +61,13 @@ module _ (clock fraction : ℕ) (hc : clock < 2 ^ 64) (hf : fraction < 2 ^ 32) w
 
   -- the shape in two parts, and in two others
   shapes :
-      fits toSecondShape first && fits fractionShape rest
+      fits clockShape first && fits fractionShape rest
       ≡ fits (digits 0 2 ++ colon ∷ []) (take 3 whole) && fits (clockText 3 0 0 0) (drop 3 whole)
-  shapes = sym (fits-append toSecondShape fractionShape whole) ∙ fits-append (digits 0 2 ++ colon ∷ []) (clockText 3 0 0 0) whole
+  shapes = sym (fits-append clockShape fractionShape whole) ∙ fits-append (digits 0 2 ++ colon ∷ []) (clockText 3 0 0 0) whole
 
   -- the twelve bytes are a timestamp
   record Right : Type 0 where
-    fits-first : fits toSecondShape first ≡ true
+    fits-first : fits clockShape first ≡ true
     fits-rest : fits fractionShape rest ≡ true
     minute : numberAt 0 2 (drop 3 whole) < 60
     second : numberAt 3 2 (drop 3 whole) < 60
@@ -85,8 +79,8 @@ module _ (clock fraction : ℕ) (hc : clock < 2 ^ 64) (hf : fraction < 2 ^ 32) w
       let f = shapes ∙ ap₂ _&&_ h (and-left (fits (clockText 3 0 0 0) (drop 3 whole)) _ c) in
       let l = and-right (fits (clockText 3 0 0 0) (drop 3 whole)) _ c in
       record {
-        fits-first = and-left (fits toSecondShape first) _ f;
-        fits-rest = and-right (fits toSecondShape first) _ f;
+        fits-first = and-left (fits clockShape first) _ f;
+        fits-rest = and-right (fits clockShape first) _ f;
         minute = ltb-true (numberAt 0 2 (drop 3 whole)) 60 (and-left (ltb (numberAt 0 2 (drop 3 whole)) 60) _ l);
         second = ltb-true (numberAt 3 2 (drop 3 whole)) 60 (and-right (ltb (numberAt 0 2 (drop 3 whole)) 60) _ l);
       }
@@ -103,11 +97,11 @@ module _ (clock fraction : ℕ) (hc : clock < 2 ^ 64) (hf : fraction < 2 ^ 32) w
   high-byte never =
       no-stamp whole (λ t.
       let r = right-if t in
-      never (ap₂ bitOr (text-clear held-first (fits-low toSecondShape first refl (r .fits-first)))
+      never (ap₂ bitOr (text-clear held-first (fits-low clockShape first refl (r .fits-first)))
       (text-clear held-rest (fits-low fractionShape rest refl (r .fits-rest)))))
 
   abbrev first-bits : ℕ
-  first-bits = bitAnd (bitXor clock (word toSecondShape) + word toSecondRooms) highest
+  first-bits = bitAnd (bitXor clock (word clockShape) + word clockRooms) highest
 
   abbrev rest-bits : ℕ
   rest-bits = bitAnd (bitXor fraction (word fractionShape) + word fractionRooms) highest
@@ -116,16 +110,16 @@ module _ (clock fraction : ℕ) (hc : clock < 2 ^ 64) (hf : fraction < 2 ^ 32) w
   no-room never =
       no-stamp whole (λ t.
       let r = right-if t in
-      let n = all-near toSecondShape first refl (r .fits-first) in
+      let n = all-near clockShape first refl (r .fits-first) in
       let m = all-near fractionShape rest refl (r .fits-rest) in
-      let a = gaps-are toSecondShape first refl (r .fits-first) in
+      let a = gaps-are clockShape first refl (r .fits-first) in
       let b = gaps-are fractionShape rest refl (r .fits-rest) in
-      never (ap₂ bitOr (room-clear held-first (subst (λ g. AllLe 127 (raised toSecondRooms g)) (sym a) (rooms-first n (r .minute) (r .second))))
+      never (ap₂ bitOr (room-clear held-first (subst (λ g. AllLe 127 (raised clockRooms g)) (sym a) (rooms-first n (r .minute) (r .second))))
       (room-clear held-rest (subst (λ g. AllLe 127 (raised fractionRooms g)) (sym b) (rooms-rest m)))))
     where
       rooms-first :
-          AllNear toSecondShape (above toSecondShape first) → numberAt 0 2 (drop 3 whole) < 60 → numberAt 3 2 (drop 3 whole) < 60 →
-          AllLe 127 (raised toSecondRooms (above toSecondShape first))
+          AllNear clockShape (above clockShape first) → numberAt 0 2 (drop 3 whole) < 60 → numberAt 3 2 (drop 3 whole) < 60 →
+          AllLe 127 (raised clockRooms (above clockShape first))
       rooms-first n minute second =
           let a = n .0 in
           let b = n .1 .0 in
@@ -151,7 +145,7 @@ module _ (clock fraction : ℕ) (hc : clock < 2 ^ 64) (hf : fraction < 2 ^ 32) w
     low-rest : AllLe 127 rest
     low-rest = low-text held-rest (or-none (bitAnd clock highest) (bitAnd fraction highest) low .1)
 
-    pub first-sum : bitXor clock (word toSecondShape) + word toSecondRooms < 2 ^ 64
+    pub first-sum : bitXor clock (word clockShape) + word clockRooms < 2 ^ 64
     first-sum = sum-below held-first low-first
 
     pub rest-sum : bitXor fraction (word fractionShape) + word fractionRooms < 2 ^ 64
@@ -160,7 +154,7 @@ module _ (clock fraction : ℕ) (hc : clock < 2 ^ 64) (hf : fraction < 2 ^ 32) w
     module _ (clear : bitOr first-bits rest-bits ≡ 0) where
       -- the values of the digits
       abbrev g : ℕ → ℕ
-      g i = getD (gaps toSecondShape first) i 0
+      g i = getD (gaps clockShape first) i 0
 
       abbrev f : ℕ → ℕ
       f i = getD (gaps fractionShape rest) i 0
@@ -187,7 +181,7 @@ module _ (clock fraction : ℕ) (hc : clock < 2 ^ 64) (hf : fraction < 2 ^ 32) w
           let d = r .1 .1 .1 .0 in
           omega arith
 
-      nines-first : AllLe 9 (gaps toSecondShape first)
+      nines-first : AllLe 9 (gaps clockShape first)
       nines-first =
           let r = firsts in
           let a = r .0 in
@@ -200,7 +194,7 @@ module _ (clock fraction : ℕ) (hc : clock < 2 ^ 64) (hf : fraction < 2 ^ 32) w
           let l = r .1 .1 .1 .1 .1 .1 .1 in
           omega arith
 
-      near-first : AllNear toSecondShape (gaps toSecondShape first)
+      near-first : AllNear clockShape (gaps clockShape first)
       near-first =
           let r = firsts in
           let n = nines-first in
@@ -209,18 +203,18 @@ module _ (clock fraction : ℕ) (hc : clock < 2 ^ 64) (hf : fraction < 2 ^ 32) w
       near-rest : AllNear fractionShape (gaps fractionShape rest)
       near-rest = let r = rests in (r .0, (r .1 .0, (r .1 .1 .0, (r .1 .1 .1, tt))))
 
-      pub first-small : bitXor clock (word toSecondShape) < 2 ^ 60
-      first-small = omega (arith, gap-word held-first, word-le 9 (gaps toSecondShape first) 8 (omega arith) nines-first)
+      pub first-small : bitXor clock (word clockShape) < 2 ^ 60
+      first-small = omega (arith, gap-word held-first, word-le 9 (gaps clockShape first) 8 (omega arith) nines-first)
 
-      fit-first : fits toSecondShape first ≡ true
-      fit-first = near-all-fit toSecondShape first refl refl near-first
+      fit-first : fits clockShape first ≡ true
+      fit-first = near-all-fit clockShape first refl refl near-first
 
       fit-rest : fits fractionShape rest ≡ true
       fit-rest = near-all-fit fractionShape rest refl refl near-rest
 
       -- what the digits are worth, by the bytes of the text
-      digit-first : (i : ℕ) → g i ≡ getD (above toSecondShape first) i 0
-      digit-first i = ap (λ l. getD l i 0) (gaps-are toSecondShape first refl fit-first)
+      digit-first : (i : ℕ) → g i ≡ getD (above clockShape first) i 0
+      digit-first i = ap (λ l. getD l i 0) (gaps-are clockShape first refl fit-first)
 
       digit-rest : (i : ℕ) → f i ≡ getD (above fractionShape rest) i 0
       digit-rest i = ap (λ l. getD l i 0) (gaps-are fractionShape rest refl fit-rest)
@@ -233,8 +227,8 @@ module _ (clock fraction : ℕ) (hc : clock < 2 ^ 64) (hf : fraction < 2 ^ 32) w
         second = omega (arith, digit-first 6, digit-first 7, firsts .1 .1 .1 .1 .1 .1 .0, firsts .1 .1 .1 .1 .1 .1 .1);
       }
 
-      pair-is : (k : ℕ) → pairOf (bitXor clock (word toSecondShape)) k ≡ g k * 10 + g (suc k)
-      pair-is k = ap (λ v. pairOf v k) (gap-word held-first) ∙ pair-at (gaps toSecondShape first) k nines-first
+      pair-is : (k : ℕ) → pairOf (bitXor clock (word clockShape)) k ≡ g k * 10 + g (suc k)
+      pair-is k = ap (λ v. pairOf v k) (gap-word held-first) ∙ pair-at (gaps clockShape first) k nines-first
 
       -- the decimals, with 0 in place of the point
       unfoldable three : Thousandths (bitXor fraction (word fractionShape))
@@ -253,8 +247,8 @@ module _ (clock fraction : ℕ) (hc : clock < 2 ^ 64) (hf : fraction < 2 ^ 32) w
 
       pub words-stamp :
           {hour minute second thousandths : ℕ} →
-          hour ≡ pairOf (bitXor clock (word toSecondShape)) 0 → minute ≡ pairOf (bitXor clock (word toSecondShape)) 3 →
-          second ≡ pairOf (bitXor clock (word toSecondShape)) 6 → thousandths ≡ numberOf (bitXor fraction (word fractionShape)) 4 →
+          hour ≡ pairOf (bitXor clock (word clockShape)) 0 → minute ≡ pairOf (bitXor clock (word clockShape)) 3 →
+          second ≡ pairOf (bitXor clock (word clockShape)) 6 → thousandths ≡ numberOf (bitXor fraction (word fractionShape)) 4 →
           hour * 3600000 + (minute * 60 + second) * 1000 + thousandths ≡ stampOf whole
       unfolding three
       words-stamp {hour} {minute} {second} {thousandths} h m s t =

@@ -1,4 +1,4 @@
--- The bytes of a text against those of a shape without letters, in numbers that hold all of them.
+-- The bytes of a text against those of a shape without T and Z, in numbers that hold all of them.
 use Prim.Native.Nat.{ℕ, _+_, _*_, _≤_, _<_}
 use mathlib.Core.Path.{_≡_, refl, sym, ap, ap₂, _∙_}
 use mathlib.Core.Bool.{Bool, true, false, cond, not, _&&_}
@@ -35,7 +35,7 @@ word-gaps (s ∷ ss) (b ∷ bs) h =
     let y : s < 256 = omega (arith, h .1 .0 .0) in
     xor-block 8 (word bs) (word ss) b s x y ∙ ap (λ r. r * 256 + bitXor b s) (word-gaps ss bs (rest-both s b ss bs h))
 
--- ---- a shape without letters
+-- ---- a shape without T and Z
 
 -- its bytes are below 119, and its first is a mark that is one byte
 pub simple-low : (shape : List ℕ) → simple shape ≡ true → AllLe 118 shape
@@ -88,7 +88,3 @@ near-nines (s ∷ ss) (x ∷ l) h n = (go (eqb s 48) (n .0), near-nines ss l (om
     go : (d : Bool) → x ≤ cond d 9 0 → x ≤ 9
     go true h = h
     go false h = omega arith
-
--- both parts of a number in two parts are 0 where it is
-pub no-part : (x y : ℕ) → x * 256 + y ≡ 0 → (x ≡ 0) × (y ≡ 0)
-no-part x y e = (omega arith, omega arith)

@@ -7,13 +7,10 @@ use mir.Syntax.{w64}
 use mir.Val.{SFits, toZ}
 use Rattle.numbers.proofs.Machine.{read, add-first, add-first-is}
 use Rattle.calendar.specs.Closed.{cycle, leapDay, monthDays, before, dayNumber}
+use Rattle.labels.specs.Parts.{monthEntry}
 use Rattle.calendar.proofs.Leap.{leap-le}
 use Rattle.calendar.proofs.Months.{UpTo, up-to, each-month, length-le}
 use Rattle.calendar.proofs.Centuries.{countZero, century-start}
-
--- what the table has for month m of a year with l leap days
-abbrev pub entry : (l m : ℕ) → ℕ
-entry l m = 32 * (before l m + 1 - l) + monthDays l m
 
 -- a number from 2 to n + 1 is one of these keys
 one-of-keys : (k n : ℕ) → UpTo (λ i. k ≡ i + 1 → ⊥) n → 2 ≤ k → k ≤ n + 1 → ⊥
@@ -22,24 +19,24 @@ one-of-keys k n none lo hi = up-to (λ i. k ≡ i + 1 → ⊥) n none (k - 1) (o
 -- the entry and the key of month m in a year with l leap days
 module _ (l m : ℕ) (h : l ≤ 1) (lo : 1 ≤ m) (hi : m ≤ 12) where
   -- an entry's rest is the month's length
-  pub entry-days : entry l m % 32 ≡ monthDays l m
+  pub entry-days : monthEntry l m % 32 ≡ monthDays l m
   entry-days = let s = length-le l m h lo hi in omega arith
 
   -- its quotient is the days before the month, 1 more in a common year
-  entry-before : entry l m / 32 ≡ before l m + 1 - l
+  entry-before : monthEntry l m / 32 ≡ before l m + 1 - l
   entry-before = let s = length-le l m h lo hi in omega arith
 
   -- it stays below 12000
-  entry-small : entry l m < 12000
+  entry-small : monthEntry l m < 12000
   unfolding before monthDays
-  entry-small = each-month (λ m. entry l m < 12000) (omega arith) m lo hi
+  entry-small = each-month (λ m. monthEntry l m < 12000) (omega arith) m lo hi
 
   -- the entry at the key k
-  pub entry-at : (k : ℕ) → 2 * m + l ≡ k → (entry (k % 2) (k / 2) ≡ entry l m) × (entry (k % 2) (k / 2) < 12000)
+  pub entry-at : (k : ℕ) → 2 * m + l ≡ k → (monthEntry (k % 2) (k / 2) ≡ monthEntry l m) × (monthEntry (k % 2) (k / 2) < 12000)
   entry-at k e =
       let p : k % 2 ≡ l = omega arith in
       let q : k / 2 ≡ m = omega arith in
-      let r : entry (k % 2) (k / 2) ≡ entry l m = ap₂ entry p q in
+      let r : monthEntry (k % 2) (k / 2) ≡ monthEntry l m = ap₂ monthEntry p q in
       (r, subst (λ n. n < 12000) (sym r) entry-small)
 
   -- the keys run from 2 to 25
@@ -59,7 +56,7 @@ dateSum c y e d = cycle * c / 4 + 1461 * y / 4 + e / 32 + d
 
 -- it is the day's number, counted from 1
 pub date-sum :
-    (c y m d e : ℕ) → y < 100 → 1 ≤ m → m ≤ 12 → 1 ≤ d → e ≡ entry (leapDay (100 * c + y)) m → dateSum c y e d ≡ dayNumber (100 * c + y) m d + 1
+    (c y m d e : ℕ) → y < 100 → 1 ≤ m → m ≤ 12 → 1 ≤ d → e ≡ monthEntry (leapDay (100 * c + y)) m → dateSum c y e d ≡ dayNumber (100 * c + y) m d + 1
 unfolding dayNumber
 date-sum c y m d e h lo hi k p =
     sum _ _ _ _ _ _ (leap-le (100 * c + y)) (century-start c y h) (ap (λ e. e / 32) p ∙ entry-before _ m (leap-le (100 * c + y)) lo hi)

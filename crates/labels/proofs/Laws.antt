@@ -126,7 +126,20 @@ label-back label h =
     let year = numberAt 0 4 label in
     let month = numberAt 5 2 label in
     let day = numberAt 8 2 label in
-    sym (ap inCapitals (d .0) ∙ date-capital year month day (drop 10 label) ∙ ap (λ l. dateText year month day ++ l) (time-back decimals (drop 10 label) (d .1)))
+    sym (ap inCapitals (d .0) ∙ date-capital year month day (drop 10 label) ∙ ap (λ l. dateText year month day ++ l) (time-back decimals (drop 10 label) (d .1) .text-is))
+
+-- and in capitals it has the same numbers
+pub capitals-fields :
+    (label : List ℕ) → fits (dateShape ++ timeShape decimals) label ≡ true →
+    readFields (inCapitals label) (drop 10 (inCapitals label)) ≡ readFields label (drop 10 label)
+capitals-fields label h =
+    let d = date-back (timeShape decimals) label h in
+    let t = time-back decimals (drop 10 label) (d .1) in
+    let y : number (digits (numberAt 0 4 label) 4) ≡ numberAt 0 4 label = sym (ap (numberAt 0 4) (d .0)) in
+    let o : number (digits (numberAt 5 2 label) 2) ≡ numberAt 5 2 label = sym (ap (numberAt 5 2) (d .0)) in
+    let e : number (digits (numberAt 8 2 label) 2) ≡ numberAt 8 2 label = sym (ap (numberAt 8 2) (d .0)) in
+    sym (ap (λ l. readFields l (drop 10 l)) (label-back label h))
+    ∙ (λ i. joinAnswer (pos (y i)) (pos (o i)) (pos (e i)) (pos (t .hour-is i)) (pos (t .minute-is i)) (pos (t .second-is i)) (pos (t .fraction-is i)))
 
 -- reading an accepted label then writing gives the same bytes, with t and z made capital
 pub read-write : (label : List ℕ) (instant : ℤ) → readAnswer label ≡ value instant → instantLabel instant ≡ value (inCapitals label)
@@ -174,7 +187,7 @@ join-refusal year month day hour minute second millisecond =
     (instantAt (dateOf year month day) (timeOfFields hour minute second millisecond))
 
 -- a label of the shape is refused with 2, 3 or 5 if it is refused
-pub shaped-refusal :
+shaped-refusal :
     {G : Type 0} (label : List ℕ) (n : ℕ) → fits (dateShape ++ timeShape decimals) label ≡ true → readFields label (drop 10 label) ≡ refused n →
     (n ≡ 2 → G) → (n ≡ 3 → G) → (n ≡ 5 → G) → G
 shaped-refusal label n h e =
@@ -182,14 +195,20 @@ shaped-refusal label n h e =
     join-refusal (pos (numberAt 0 4 label)) (pos (numberAt 5 2 label)) (pos (numberAt 8 2 label)) (pos (numberAt 1 2 t)) (pos (numberAt 4 2 t))
     (pos (numberAt 7 2 t)) (pos (numberAt 10 decimals t)) n e (λ y _. no-both _ y (year-inside label h))
 
+-- a reader that takes labels of the shape only refuses with 8 exactly those that it does not take
+pub eight-if :
+    (label : List ℕ) (t : Bool) → (t ≡ true → fits (dateShape ++ timeShape decimals) label ≡ true) →
+    (cond t (readFields label (drop 10 label)) (refused 8) ≡ refused 8) ↔ (t ≡ false)
+eight-if label true h = (
+  λ e. shaped-refusal label 8 (h refl) e (λ z. absurd (omega arith)) (λ z. absurd (omega arith)) (λ z. absurd (omega arith)),
+  λ f. no-both true refl f,
+)
+eight-if label false h = (λ e. refl, λ f. refl)
+
 -- reading refuses with 8 exactly if the label has another shape
 pub eight-exactly : (label : List ℕ) → (readAnswer label ≡ refused 8) ↔ (fits (dateShape ++ timeShape decimals) label ≡ false)
 unfolding readAnswer
-eight-exactly label = go (fits (dateShape ++ timeShape decimals) label) refl
-  where
-    go : (t : Bool) → fits (dateShape ++ timeShape decimals) label ≡ t → (cond t (readFields label (drop 10 label)) (refused 8) ≡ refused 8) ↔ (t ≡ false)
-    go true h = (λ e. shaped-refusal label 8 h e (λ z. absurd (omega arith)) (λ z. absurd (omega arith)) (λ z. absurd (omega arith)), λ f. no-both true refl f)
-    go false h = (λ e. refl, λ f. refl)
+eight-exactly label = eight-if label (fits (dateShape ++ timeShape decimals) label) (λ e. e)
 
 -- the years of labels are in the range of years: reading never refuses with 1
 pub read-year : (label : List ℕ) → readAnswer label ≡ refused 1 → ⊥

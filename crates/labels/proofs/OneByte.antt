@@ -1,4 +1,4 @@
--- One byte against that of a shape without letters: where it fits, it differs by the value of a digit at most.
+-- One byte against that of a shape without T and Z: where it fits, it differs by the value of a digit at most.
 use Prim.Native.Nat.{ℕ, _+_, _-_, _*_, _/_, _%_, _≤_, _<_}
 use mathlib.Core.Path.{_≡_, refl, sym, ap, ap₂, _∙_}
 use mathlib.Core.Bool.{Bool, true, false, cond, _&&_, _||_}

@@ -7,30 +7,23 @@ use native.Mathlib.Omega.{arith}
 use lib.ListN.{length, getD, take, drop, length-drop, drop-of-length-le}
 use lib.Seq.{take-all, drop-cons}
 use Rattle.refusal.specs.Outcome.{refused}
-use Rattle.labels.specs.Clock.{colon, point}
 use Rattle.labels.specs.Digits.{number, numberAt, letterT, letterZ, fitsOne, fits}
 use Rattle.labels.specs.Rfc3339.{dash, labelLength, decimals, dateShape, timeShape, readFields, readAnswer}
 use Rattle.labels.specs.Words.{word, partOf, OneWord, textOf, readValues, pairOf, numberOf, ClockValues, Thousandths}
 use Rattle.labels.specs.declared.digits.Values.the-variants.{Read, Malformed}
 use Rattle.labels.specs.Parts.{joined, joinedValues, readTime}
-use Rattle.labels.proofs.Shapes.{uneven, fits-from, fits-overlap}
+use Rattle.labels.proofs.Shapes.{clockShape, fractionShape, uneven, fits-from, fits-overlap}
 use Rattle.labels.proofs.Words.{AllLe, part-length, part-le, part-two, part-three, part-four, all-bytes}
 use Rattle.labels.proofs.Gaps.{all-near}
 use Rattle.labels.proofs.ReadValues.{ValuesRead, both-read, none-read, number-four, part-number}
 use Rattle.labels.proofs.Thousandths.{number-is}
 
--- the shapes of the code: `YYYY`, `YY-MM-DD`, `HH:MM:SS` and `.mmm`
+-- the shapes of the code: `YYYY` and `YY-MM-DD`, beside `HH:MM:SS` and `.mmm`
 abbrev pub yearShape : List ℕ
 yearShape = 48 ∷ 48 ∷ 48 ∷ 48 ∷ []
 
 abbrev pub fromYearShape : List ℕ
 fromYearShape = 48 ∷ 48 ∷ dash ∷ 48 ∷ 48 ∷ dash ∷ 48 ∷ 48 ∷ []
-
-abbrev pub clockShape : List ℕ
-clockShape = 48 ∷ 48 ∷ colon ∷ 48 ∷ 48 ∷ colon ∷ 48 ∷ 48 ∷ []
-
-abbrev pub fractionShape : List ℕ
-fractionShape = point ∷ 48 ∷ 48 ∷ 48 ∷ []
 
 rest-is : (n : ℕ) (text : List ℕ) → take (length text - n) (drop n text) ≡ drop n text
 rest-is n text = take-all (length text - n) (drop n text) (omega (arith, length-drop n text))
@@ -134,10 +127,10 @@ module _ (part : List ℕ) (l : length part ≡ 14) where
       ∙ ap (λ r. fitsOne letterZ (getD part 13 0) && fits [] r) (drop-of-length-le part k)
       ∙ and-true (fitsOne letterZ (getD part 13 0))
 
-  abbrev digits-fit : Bool
-  digits-fit = fits clockShape (partOf 1 8 part) && fits fractionShape (partOf 9 4 part)
+  abbrev both-fit : Bool
+  both-fit = fits clockShape (partOf 1 8 part) && fits fractionShape (partOf 9 4 part)
 
-  time-by-parts : fits (timeShape decimals) part ≡ fitsOne letterT (getD part 0 0) && (digits-fit && fitsOne letterZ (getD part 13 0))
+  time-by-parts : fits (timeShape decimals) part ≡ fitsOne letterT (getD part 0 0) && (both-fit && fitsOne letterZ (getD part 13 0))
   time-by-parts =
       let h : 0 < length part = omega arith in
       ap (fits (timeShape decimals)) (drop-cons part 0 0 h)
@@ -153,14 +146,14 @@ module _ (part : List ℕ) (l : length part ≡ 14) where
         sym (ap (λ t. cond t (joined year month day (numberAt 1 2 part) (numberAt 4 2 part) (numberAt 7 2 part) (numberAt 10 decimals part)) (refused 8)) (e ∙ f))
 
     pub wrong-first : fitsOne letterT (getD part 0 0) ≡ false → refused 8 ≡ readTime year month day part
-    wrong-first e = unless _ time-by-parts (ap (λ t. t && (digits-fit && fitsOne letterZ (getD part 13 0))) e)
+    wrong-first e = unless _ time-by-parts (ap (λ t. t && (both-fit && fitsOne letterZ (getD part 13 0))) e)
 
     pub wrong-last : fitsOne letterZ (getD part 13 0) ≡ false → refused 8 ≡ readTime year month day part
     wrong-last e =
         unless _ time-by-parts
-        (ap (λ t. fitsOne letterT (getD part 0 0) && (digits-fit && t)) e ∙ ap (λ t. fitsOne letterT (getD part 0 0) && t) (and-false digits-fit) ∙ and-false (fitsOne letterT (getD part 0 0)))
+        (ap (λ t. fitsOne letterT (getD part 0 0) && (both-fit && t)) e ∙ ap (λ t. fitsOne letterT (getD part 0 0) && t) (and-false both-fit) ∙ and-false (fitsOne letterT (getD part 0 0)))
 
-    pub wrong-digits : digits-fit ≡ false → refused 8 ≡ readTime year month day part
+    pub wrong-digits : both-fit ≡ false → refused 8 ≡ readTime year month day part
     wrong-digits e =
         unless _ time-by-parts
         (ap (λ t. fitsOne letterT (getD part 0 0) && (t && fitsOne letterZ (getD part 13 0))) e ∙ and-false (fitsOne letterT (getD part 0 0)))

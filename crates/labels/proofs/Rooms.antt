@@ -12,7 +12,7 @@ use Rattle.labels.specs.Digits.{fitsOne, fits}
 use Rattle.labels.specs.Words.{word, simple, roomOne, rooms}
 use Rattle.labels.proofs.Words.{AllLe, word-le}
 use Rattle.labels.proofs.OneByte.{value-near}
-use Rattle.labels.proofs.Gaps.{gaps, Both, word-gaps, simple-low, simple-first, simple-rest, AllNear, near-nines, no-part}
+use Rattle.labels.proofs.Gaps.{gaps, Both, word-gaps, simple-low, simple-first, simple-rest, AllNear, near-nines}
 
 -- ---- the highest bits of bytes
 
@@ -37,6 +37,10 @@ top-step :
     bitAnd (word (b ∷ bs)) (word (replicate (suc n) 128)) ≡ bitAnd (word bs) (word (replicate n 128)) * 256 + bitAnd b 128
 top-step n b bs h = let l : b < 256 = omega arith in and-block 8 (word bs) (word (replicate n 128)) b 128 l (lit< tt)
 
+-- both parts of a number in two parts are 0 where it is
+no-part : (x y : ℕ) → x * 256 + y ≡ 0 → (x ≡ 0) × (y ≡ 0)
+no-part x y e = (omega arith, omega arith)
+
 pub low-clear : (l : List ℕ) (n : ℕ) → length l ≤ n → AllLe 127 l → bitAnd (word l) (word (replicate n 128)) ≡ 0
 low-clear [] n h a = and-zero-l (word (replicate n 128))
 low-clear (b ∷ bs) zero h a = absurd (omega arith)
@@ -51,7 +55,7 @@ clear-low (b ∷ bs) (suc n) h a e =
     let z = no-part _ _ (sym (top-step n b bs (a .0)) ∙ e) in
     (top-none b (a .0) (z .1), clear-low bs n (omega arith) (a .1) (z .0))
 
--- bits that neither of two numbers has, and that one of them has
+-- bits that neither of two numbers has
 pub or-none : (a b : ℕ) → bitOr a b ≡ 0 → (a ≡ 0) × (b ≡ 0)
 or-none a b e = (omega (arith, e, or-add-and a b, and-le-r a b), omega (arith, e, or-add-and a b, and-le-l a b))
 
@@ -135,7 +139,7 @@ module _ {shape rooms text : List ℕ} {n : ℕ} (h : Held shape rooms text n) w
   pub room-clear : AllLe 127 (raised rooms (gaps shape text)) → bitAnd (bitXor n (word shape) + word rooms) highest ≡ 0
   room-clear a = ap (λ s. bitAnd s highest) sum-word ∙ low-clear (raised rooms (gaps shape text)) 8 few a
 
--- ---- a text that fits a shape without letters
+-- ---- a text that fits a shape without T and Z
 
 pub fits-low : (shape text : List ℕ) → simple shape ≡ true → fits shape text ≡ true → AllLe 127 text
 fits-low [] [] p f = tt

@@ -1,6 +1,7 @@
 -- Texts of one shape.
 use Prim.Native.Nat.{ℕ, zero, suc, _+_, _/_, _%_}
 use mathlib.Core.Path.{_≡_, refl, sym, ap, ap₂, _∙_}
+use mathlib.Core.Logic.{⊎-elim}
 use mathlib.Core.Bool.{Bool, true, false, _&&_, _||_, and-false, and-assoc}
 use mathlib.Core.List.{List, [], _∷_, _++_}
 use borrow.Author.Tests.{eqb-true}
@@ -9,10 +10,19 @@ use lib.ListN.{length, take, drop, replicate, take-append-drop}
 use lib.Seq.{drop-drop}
 use Rattle.numbers.proofs.Bools.{no-both, and-left, and-right}
 use Rattle.labels.specs.Digits.{digits, number, isDigit, letterT, letterZ, hasSmall, small, fitsOne, fits}
+use Rattle.labels.specs.Clock.{colon, point}
 use Rattle.labels.specs.Capitals.{capital, inCapitals}
 use Rattle.labels.specs.Words.{partOf}
 use Rattle.labels.specs.Stamps.{allDigits}
+use Rattle.labels.specs.Timings.{letter-is}
 use Rattle.labels.proofs.Decimal.{is-digit, digits-number, length-digits}
+
+-- `HH:MM:SS` and `.mmm`
+abbrev pub clockShape : List ℕ
+clockShape = 48 ∷ 48 ∷ colon ∷ 48 ∷ 48 ∷ colon ∷ 48 ∷ 48 ∷ []
+
+abbrev pub fractionShape : List ℕ
+fractionShape = point ∷ 48 ∷ 48 ∷ 48 ∷ []
 
 -- a text that fits is as long as the shape
 pub uneven : (shape text : List ℕ) → (length shape ≡ length text → ⊥) → fits shape text ≡ false
@@ -55,19 +65,21 @@ fits-overlap a b c text =
 -- ---- letters
 
 -- the capital of what fits a letter is the letter
-pub capital-letter : (letter byte : ℕ) → hasSmall letter ≡ true → fitsOne letter byte ≡ true → capital byte ≡ letter
-capital-letter letter byte two = go (eqb letter letterT) refl two
+capital-letter : (letter byte : ℕ) → hasSmall letter ≡ true → fitsOne letter byte ≡ true → capital byte ≡ letter
+capital-letter letter byte two f = ⊎-elim (λ e. at e (of letterT refl refl (told e f))) (λ e. at e (of letterZ refl refl (told e f))) (letter-is letter two)
   where
+    told : {l : ℕ} → letter ≡ l → fitsOne letter byte ≡ true → fitsOne l byte ≡ true
+    told e f = ap (λ l. fitsOne l byte) (sym e) ∙ f
+
+    at : {l : ℕ} → letter ≡ l → capital byte ≡ l → capital byte ≡ letter
+    at e c = c ∙ sym e
+
     of : (letter : ℕ) → capital (small letter) ≡ letter → capital letter ≡ letter → (eqb byte (small letter) || eqb byte letter) ≡ true → capital byte ≡ letter
     of letter c d = by (eqb byte (small letter)) refl
       where
         by : (t : Bool) → eqb byte (small letter) ≡ t → (t || eqb byte letter) ≡ true → capital byte ≡ letter
         by true e h = ap capital (eqb-true byte (small letter) e) ∙ c
         by false e h = ap capital (eqb-true byte letter h) ∙ d
-
-    go : (t : Bool) → eqb letter letterT ≡ t → (t || eqb letter letterZ) ≡ true → fitsOne letter byte ≡ true → capital byte ≡ letter
-    go true e h f = let l = eqb-true letter letterT e in of letterT refl refl (ap (λ l. fitsOne l byte) (sym l) ∙ f) ∙ sym l
-    go false e h f = let l = eqb-true letter letterZ h in of letterZ refl refl (ap (λ l. fitsOne l byte) (sym l) ∙ f) ∙ sym l
 
 -- ---- a shape of digits
 
@@ -99,30 +111,41 @@ module _ (text : List ℕ) (i : ℕ) (shape : List ℕ) where
       let e : drop count (drop i text) ≡ drop (i + count) text = drop-drop count i text in
       (sym (take-append-drop count (drop i text)) ∙ ap₂ _++_ (sym d) e, sym (ap (fits shape) e) ∙ and-right (fits (digits 0 count) (take count (drop i text))) _ f)
 
-  -- a mark of one byte, and a letter, of which only the capital can be told
-  pub mark-front :
-      (mark : ℕ) → eqb mark 48 ≡ false → hasSmall mark ≡ false → fits (mark ∷ shape) (drop i text) ≡ true →
-      (drop i text ≡ mark ∷ drop (i + 1) text) × (fits shape (drop (i + 1) text) ≡ true)
-  mark-front mark m one h = go (drop i text) refl h
+  -- the byte of a mark, and what stands behind it
+  record Front (mark : ℕ) : Type 0 where
+    byte : ℕ
+    byte-fits : fitsOne mark byte ≡ true
+    front-is : drop i text ≡ byte ∷ drop (i + 1) text
+    rest-fits : fits shape (drop (i + 1) text) ≡ true
+
+  front : (mark : ℕ) → fits (mark ∷ shape) (drop i text) ≡ true → Front mark
+  front mark h = go (drop i text) refl h
     where
-      go : (l : List ℕ) → drop i text ≡ l → fits (mark ∷ shape) l ≡ true → (l ≡ mark ∷ drop (i + 1) text) × (fits shape (drop (i + 1) text) ≡ true)
+      go : (l : List ℕ) → drop i text ≡ l → fits (mark ∷ shape) l ≡ true → Front mark
       go [] e h = no-both false h refl
       go (b ∷ bs) e h =
           let r : drop (i + 1) text ≡ bs = sym (drop-drop 1 i text) ∙ ap (drop 1) e in
-          let f = rw (m, one) at h in
-          (ap₂ _∷_ (eqb-true b mark (and-left (eqb b mark) (fits shape bs) f)) (sym r), ap (fits shape) r ∙ and-right (eqb b mark) (fits shape bs) f)
+          record {
+            byte = b;
+            byte-fits = and-left (fitsOne mark b) (fits shape bs) h;
+            front-is = e ∙ ap (λ l. b ∷ l) (sym r);
+            rest-fits = ap (fits shape) r ∙ and-right (fitsOne mark b) (fits shape bs) h;
+          }
+
+  -- of one byte, and a letter, of which the capital can be told
+  pub mark-front :
+      (mark : ℕ) → eqb mark 48 ≡ false → hasSmall mark ≡ false → fits (mark ∷ shape) (drop i text) ≡ true →
+      (drop i text ≡ mark ∷ drop (i + 1) text) × (fits shape (drop (i + 1) text) ≡ true)
+  mark-front mark m one h =
+      let f = front mark h in
+      (f .front-is ∙ ap (λ b. b ∷ drop (i + 1) text) (eqb-true (f .byte) mark (rw (m, one) at (f .byte-fits))), f .rest-fits)
 
   pub letter-front :
       (letter : ℕ) → hasSmall letter ≡ true → fits (letter ∷ shape) (drop i text) ≡ true →
       (inCapitals (drop i text) ≡ letter ∷ inCapitals (drop (i + 1) text)) × (fits shape (drop (i + 1) text) ≡ true)
-  letter-front letter two h = go (drop i text) refl h
-    where
-      go : (l : List ℕ) → drop i text ≡ l → fits (letter ∷ shape) l ≡ true →
-          (inCapitals l ≡ letter ∷ inCapitals (drop (i + 1) text)) × (fits shape (drop (i + 1) text) ≡ true)
-      go [] e h = no-both false h refl
-      go (b ∷ bs) e h =
-          let r : drop (i + 1) text ≡ bs = sym (drop-drop 1 i text) ∙ ap (drop 1) e in
-          (ap₂ _∷_ (capital-letter letter b two (and-left (fitsOne letter b) (fits shape bs) h)) (ap inCapitals (sym r)), ap (fits shape) r ∙ and-right (fitsOne letter b) (fits shape bs) h)
+  letter-front letter two h =
+      let f = front letter h in
+      (ap inCapitals (f .front-is) ∙ ap (λ b. b ∷ inCapitals (drop (i + 1) text)) (capital-letter letter (f .byte) two (f .byte-fits)), f .rest-fits)
 
 -- ---- texts that fit
 

@@ -1,15 +1,17 @@
 -- Dates and times as text, both ways: a text of that shape is the text of its numbers, and the numbers of a text are those written.
 use Prim.Native.Nat.{ℕ, zero, suc, _+_, _/_, _%_}
-use mathlib.Core.Path.{_≡_, refl, ap, ap₂, _∙_}
+use mathlib.Core.Path.{_≡_, refl, sym, ap, ap₂, _∙_}
 use mathlib.Core.Bool.{true, cond}
 use mathlib.Core.List.{List, [], _∷_, _++_, map-append}
 use native.Mathlib.Omega.{arith}
 use borrow.Author.Tests.{ne-eqb}
-use lib.ListN.{drop}
+use lib.ListN.{take, drop}
+use lib.Seq.{take-at}
 use Rattle.labels.specs.Clock.{colon, point}
-use Rattle.labels.specs.Digits.{digits, numberAt, letterT, letterZ, small, fits}
+use Rattle.labels.specs.Digits.{digits, number, numberAt, letterT, letterZ, small, fits}
 use Rattle.labels.specs.Capitals.{capital, inCapitals}
 use Rattle.labels.specs.Rfc3339.{dash, dateText, timeText, dateShape, timeShape}
+use Rattle.labels.proofs.Decimal.{length-digits}
 use Rattle.labels.proofs.Shapes.{digits-front, mark-front, letter-front, fits-both, digits-fit, fits-nothing}
 
 -- ---- a text of the shape is the text of its numbers
@@ -51,11 +53,19 @@ digits-then :
     (n count : ℕ) (rest : List ℕ) {whole text : List ℕ} → whole ≡ digits n count ++ rest → inCapitals rest ≡ text → inCapitals whole ≡ digits n count ++ text
 digits-then n count rest e c = ap inCapitals e ∙ digits-capital n count rest ∙ ap (λ l. digits n count ++ l) c
 
--- a time is so with its letters made capital
+-- a time is so with its letters made capital; and its numbers have room in it
+pub record TimeBack (decimals : ℕ) (part : List ℕ) : Type 0 where
+  pub text-is : inCapitals part ≡ timeText decimals (numberAt 1 2 part) (numberAt 4 2 part) (numberAt 7 2 part) (numberAt 10 decimals part)
+  pub hour-is : number (digits (numberAt 1 2 part) 2) ≡ numberAt 1 2 part
+  pub minute-is : number (digits (numberAt 4 2 part) 2) ≡ numberAt 4 2 part
+  pub second-is : number (digits (numberAt 7 2 part) 2) ≡ numberAt 7 2 part
+  pub fraction-is : number (digits (numberAt 10 decimals part) decimals) ≡ numberAt 10 decimals part
+
+number-back : (n count : ℕ) {text : List ℕ} (rest : List ℕ) → text ≡ digits n count ++ rest → number (take count text) ≡ number (digits n count)
+number-back n count rest e = ap (λ l. number (take count l)) e ∙ ap number (take-at (digits n count) rest count (length-digits n count))
+
 module _ (decimals : ℕ) where
-  pub time-back :
-      (part : List ℕ) → fits (timeShape decimals) part ≡ true →
-      inCapitals part ≡ timeText decimals (numberAt 1 2 part) (numberAt 4 2 part) (numberAt 7 2 part) (numberAt 10 decimals part)
+  pub time-back : (part : List ℕ) → fits (timeShape decimals) part ≡ true → TimeBack decimals part
   time-back part f =
       let end = digits 0 decimals ++ letterZ ∷ [] in
       let t = letter-front part 0 (digits 0 2 ++ colon ∷ digits 0 2 ++ colon ∷ digits 0 2 ++ point ∷ end) letterT refl f in
@@ -67,12 +77,18 @@ module _ (decimals : ℕ) where
       let p = mark-front part 9 end point refl refl (s .1) in
       let k = digits-front part 10 (letterZ ∷ []) decimals (p .1) in
       let z = letter-front part (10 + decimals) [] letterZ refl (k .1) in
-      t .0
-      ∙ ap (λ l. letterT ∷ l) (digits-then (numberAt 1 2 part) 2 (drop 3 part) (h .0)
-      (ap inCapitals (a .0) ∙ ap (λ l. colon ∷ l) (digits-then (numberAt 4 2 part) 2 (drop 6 part) (m .0)
-      (ap inCapitals (b .0) ∙ ap (λ l. colon ∷ l) (digits-then (numberAt 7 2 part) 2 (drop 9 part) (s .0)
-      (ap inCapitals (p .0) ∙ ap (λ l. point ∷ l) (digits-then (numberAt 10 decimals part) decimals (drop (10 + decimals) part) (k .0)
-      (z .0 ∙ ap (λ l. letterZ ∷ inCapitals l) (fits-nothing (drop (10 + decimals + 1) part) (z .1))))))))))
+      record {
+        text-is = t .0
+            ∙ ap (λ l. letterT ∷ l) (digits-then (numberAt 1 2 part) 2 (drop 3 part) (h .0)
+            (ap inCapitals (a .0) ∙ ap (λ l. colon ∷ l) (digits-then (numberAt 4 2 part) 2 (drop 6 part) (m .0)
+            (ap inCapitals (b .0) ∙ ap (λ l. colon ∷ l) (digits-then (numberAt 7 2 part) 2 (drop 9 part) (s .0)
+            (ap inCapitals (p .0) ∙ ap (λ l. point ∷ l) (digits-then (numberAt 10 decimals part) decimals (drop (10 + decimals) part) (k .0)
+            (z .0 ∙ ap (λ l. letterZ ∷ inCapitals l) (fits-nothing (drop (10 + decimals + 1) part) (z .1))))))))));
+        hour-is = sym (number-back (numberAt 1 2 part) 2 (drop 3 part) (h .0));
+        minute-is = sym (number-back (numberAt 4 2 part) 2 (drop 6 part) (m .0));
+        second-is = sym (number-back (numberAt 7 2 part) 2 (drop 9 part) (s .0));
+        fraction-is = sym (number-back (numberAt 10 decimals part) decimals (drop (10 + decimals) part) (k .0));
+      }
 
 -- ---- written texts have the shape
 

@@ -8,16 +8,14 @@ use lib.Dec.{lit<}
 use Rattle.labels.specs.Words.{word, numberOf, Thousandths}
 use Rattle.labels.proofs.Words.{AllLe, byte-at}
 
-decimals-are : (a b c : ℕ) → a ≤ 9 → b ≤ 9 → c ≤ 9 → numberOf (((c * 256 + b) * 256 + a) * 256) 4 ≡ a * 100 + b * 10 + c
+decimals-are : (a b c : ℕ) → a ≤ 9 → b ≤ 9 → c ≤ 9 → numberOf (word (0 ∷ a ∷ b ∷ c ∷ [])) 4 ≡ a * 100 + b * 10 + c
 decimals-are a b c ha hb hc =
     let l : List ℕ = 0 ∷ a ∷ b ∷ c ∷ [] in
-    let e : ((c * 256 + b) * 256 + a) * 256 ≡ word l = omega arith in
     let small : AllLe 255 l = omega arith in
-    ap (λ v. numberOf v 4) e
-    ∙ omega (arith, byte-at l 0 small, byte-at l 1 small, byte-at l 2 small, byte-at l 3 small)
+    omega (arith, byte-at l 0 small, byte-at l 1 small, byte-at l 2 small, byte-at l 3 small)
 
 product-is :
-    (a b c : ℕ) → a ≤ 9 → b ≤ 9 → c ≤ 9 → {w : ℕ} → w ≡ ((c * 256 + b) * 256 + a) * 256 →
+    (a b c : ℕ) → a ≤ 9 → b ≤ 9 → c ≤ 9 → {w : ℕ} → w ≡ word (0 ∷ a ∷ b ∷ c ∷ []) →
     bitAnd (w * 10 + w / 256) 16711935 * 6553601 / 65536 % 65536 ≡ a * 100 + b * 10 + c
 product-is a b c ha hb hc {w} e =
     let high = c * 10 * 256 + (b * 10 + c) in

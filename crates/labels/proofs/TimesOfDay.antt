@@ -52,10 +52,7 @@ module _ {values : ℕ} (c : ClockValues values) where
   pair-is : (k : ℕ) → pairOf values k ≡ getD digits k 0 * 10 + getD digits (suc k) 0
   pair-is k = ap (λ v. pairOf v k) (c .values-are) ∙ pair-at digits k nines
 
-  -- the tens of minutes and seconds, and what stands between them
-  abbrev tens : List ℕ
-  tens = c .minute-tens ∷ c .minute-ones ∷ 0 ∷ c .second-tens ∷ []
-
+  -- the tens of minutes and seconds, raised, and what stands between them
   abbrev raised-tens : List ℕ
   raised-tens = (c .minute-tens + 122) ∷ c .minute-ones ∷ 0 ∷ (c .second-tens + 122) ∷ []
 

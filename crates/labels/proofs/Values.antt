@@ -1,21 +1,17 @@
 -- The two tests of the code together find out whether two texts have their shapes.
-use Prim.Native.Nat.{ℕ, _+_, _≤_, _<_, _^_}
+use Prim.Native.Nat.{ℕ, _+_, _<_, _^_}
 use mathlib.Core.Path.{_≡_, refl, sym, ap, ap₂, _∙_, subst}
 use mathlib.Core.Bool.{Bool, true, false, cond, _&&_}
-use mathlib.Core.List.{List, [], _∷_}
+use mathlib.Core.List.{List}
 use native.Mathlib.Omega.{arith}
 use lib.Bits.{bitAnd, bitOr, bitXor}
 use lib.ListN.{length, length-map}
 use Rattle.labels.specs.Digits.{fits}
 use Rattle.labels.specs.Words.{word, roomOne, rooms, OneWord, above, textOf, readValues}
 use Rattle.labels.specs.declared.digits.Values.the-variants.{Read, Malformed}
-use Rattle.labels.proofs.Words.{AllLe, length-bytes, bytes-le, word-bytes}
+use Rattle.labels.proofs.Words.{lower, length-bytes, bytes-le, word-bytes}
 use Rattle.labels.proofs.Gaps.{gaps, simple-low, AllNear, all-near, gaps-are, near-all-fit}
-use Rattle.labels.proofs.Rooms.{highest, Held, raised, or-none, low-text, text-clear, gap-word, gaps-size, sum-below, roomy, room-clear, fits-low, rooms-le, near-roomy, roomy-near}
-
-lower : (low high : ℕ) (l : List ℕ) → low ≤ high → AllLe low l → AllLe high l
-lower low high [] h a = tt
-lower low high (x ∷ l) h a = let k = a .0 in (omega arith, lower low high l h (a .1))
+use Rattle.labels.proofs.Rooms.{highest, Held, or-none, low-text, text-clear, gap-word, gaps-size, sum-below, roomy, room-clear, fits-low, rooms-le, near-roomy, roomy-near}
 
 -- ---- one text
 

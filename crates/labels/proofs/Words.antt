@@ -21,6 +21,10 @@ pub bytes : (l : List ℕ) → ((i : ℕ) → Fits w8 (getD l i 0)) → AllLe 25
 bytes [] h = tt
 bytes (n ∷ ns) h = (omega (arith, h 0 .fits), bytes ns (λ i. h (suc i)))
 
+pub lower : (low high : ℕ) (l : List ℕ) → low ≤ high → AllLe low l → AllLe high l
+lower low high [] h a = tt
+lower low high (x ∷ l) h a = let k = a .0 in (omega arith, lower low high l h (a .1))
+
 pub word-le : (limit : ℕ) (l : List ℕ) (k : ℕ) → length l ≤ k → AllLe limit l → word l ≤ word (replicate k limit)
 word-le limit [] k h a = omega arith
 word-le limit (n ∷ ns) zero h a = absurd (omega arith)

@@ -1,4 +1,4 @@
--- Decimal digits as bytes, and texts of one shape. 48 is the byte of the digit 0, and 57 that of 9.
+-- Decimal digits as bytes, and texts of one shape, whose letters may be small. 48 is the byte of the digit 0, and 57 that of 9.
 use Prim.Native.Nat.{ℕ, zero, suc, _+_, _-_, _*_, _/_, _%_}
 use mathlib.Core.Bool.{Bool, true, false, cond, _&&_, _||_}
 use mathlib.Core.List.{List, [], _∷_, _++_}

@@ -1,11 +1,12 @@
 -- Parts of an instant label as the code writes and reads them, for proofs and private contracts only: nobody has to believe them.
-use Prim.Native.Nat.{ℕ, _-_, _<_, _^_}
+use Prim.Native.Nat.{ℕ, _+_, _-_, _*_, _<_, _^_}
 use mathlib.Core.Path.{_≡_}
 use mathlib.Core.Bool.{false, cond}
 use mathlib.Core.List.{List}
 use lib.IntN.{ℤ, pos}
 use Rattle.refusal.specs.Outcome.{Outcome, refused}
 use Rattle.numbers.specs.Range.{outside}
+use Rattle.calendar.specs.Closed.{before, monthDays}
 use Rattle.instant.specs.Answers.{joinAnswer}
 use Rattle.instant.specs.declared.Fields.{Fields}
 use Rattle.labels.specs.Digits.{numberAt, fits}
@@ -54,3 +55,8 @@ readTime year month day rest =
 -- century, year of the century, month and day, as two digits each tell them
 abbrev pub DateDigits : (century year month day : ℕ) → Type 0
 DateDigits century year month day = (century < 100) × ((year < 100) × ((month < 100) × (day < 100)))
+
+-- what the reader's table has for a month of a year with so many leap days: its length, and 32 times the days of the year before it,
+-- one more of these in a common year
+abbrev pub monthEntry : (leap month : ℕ) → ℕ
+monthEntry leap month = 32 * (before leap month + 1 - leap) + monthDays leap month

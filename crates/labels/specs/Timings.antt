@@ -2,6 +2,7 @@
 -- the rest is its proof, and for private contracts.
 use Prim.Native.Nat.{ℕ, zero, suc, _+_, _-_, _≤_, _<_}
 use mathlib.Core.Path.{_≡_, refl, sym, ap, ap₂, _∙_, subst}
+use mathlib.Core.Logic.{_⊎_, inl, inr, ⊎-elim}
 use mathlib.Core.Bool.{Bool, true, false, cond, not, _&&_, _||_}
 use mathlib.Core.List.{List, [], _∷_, _++_}
 use native.Mathlib.Omega.{arith}
@@ -71,13 +72,13 @@ solid-digit byte h =
     let l = leb-true 48 byte (and-left (leb 48 byte) (leb byte 57) h) in
     ap₂ (λ a b. not (a || b)) (ne-eqb byte 32 (λ e. omega arith)) (ne-eqb byte 9 (λ e. omega arith))
 
--- the marks that may be small are letters
-small-high : (mark : ℕ) → hasSmall mark ≡ true → 84 ≤ mark
-small-high mark = go (eqb mark letterT) refl
+-- the marks that may be small are T and Z
+pub letter-is : (mark : ℕ) → hasSmall mark ≡ true → (mark ≡ letterT) ⊎ (mark ≡ letterZ)
+letter-is mark = go (eqb mark letterT) refl
   where
-    go : (t : Bool) → eqb mark letterT ≡ t → (t || eqb mark letterZ) ≡ true → 84 ≤ mark
-    go true e h = omega (arith, eqb-true mark letterT e)
-    go false e h = omega (arith, eqb-true mark letterZ h)
+    go : (t : Bool) → eqb mark letterT ≡ t → (t || eqb mark letterZ) ≡ true → (mark ≡ letterT) ⊎ (mark ≡ letterZ)
+    go true e h = inl (eqb-true mark letterT e)
+    go false e h = inr (eqb-true mark letterZ h)
 
 fits-solid : (shape text : List ℕ) → AllAre false shape → fits shape text ≡ true → AllAre false text
 fits-solid [] [] a h = tt
@@ -87,8 +88,8 @@ fits-solid (s ∷ ss) (b ∷ bs) a h = (one (eqb s 48) (and-left (fitsOne s b) (
   where
     mark : (t : Bool) → hasSmall s && eqb b (small s) ≡ t → (t || eqb b s) ≡ true → not (isBlank b) ≡ true
     mark true e f =
-        let l = small-high s (and-left (hasSmall s) _ e) in
         let k = eqb-true b (small s) (and-right (hasSmall s) _ e) in
+        let l : 84 ≤ s = ⊎-elim (λ e. omega arith) (λ e. omega arith) (letter-is s (and-left (hasSmall s) _ e)) in
         ap₂ (λ a b. not (a || b)) (ne-eqb b 32 (λ e. omega arith)) (ne-eqb b 9 (λ e. omega arith))
     mark false e f = ap (λ b. not (isBlank b)) (eqb-true b s f) ∙ a .0
 

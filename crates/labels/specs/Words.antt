@@ -23,7 +23,7 @@ abbrev pub bytesOf : (count n : ℕ) → List ℕ
 bytesOf zero n = []
 bytesOf (suc count) n = bytesOf count n ++ byteOf n count ∷ []
 
--- a shape without letters, of bytes that a digit's value more leaves below 128
+-- a shape without T and Z, of bytes that a digit's value more leaves below 128
 abbrev pub simple : (shape : List ℕ) → Bool
 simple [] = true
 simple (s ∷ ss) = leb s 118 && (not (hasSmall s) && simple ss)
@@ -35,7 +35,7 @@ roomOne shape = cond (eqb shape 48) 118 127
 abbrev pub rooms : (shape : List ℕ) → List ℕ
 rooms shape = map roomOne shape
 
--- a shape of at most eight bytes, and a number of as many
+-- such a shape of at most eight bytes, and a number of as many
 abbrev pub OneWord : (shape : List ℕ) (n : ℕ) → Type 0
 OneWord shape n = (length shape ≤ 8) × ((simple shape ≡ true) × (n < 256 ^ length shape))
 
@@ -88,4 +88,4 @@ pub record Thousandths (values : ℕ) : Type 0 where
   pub tenth-le : tenth ≤ 9
   pub hundredth-le : hundredth ≤ 9
   pub thousandth-le : thousandth ≤ 9
-  pub values-are : values ≡ ((thousandth * 256 + hundredth) * 256 + tenth) * 256
+  pub values-are : values ≡ word (0 ∷ tenth ∷ hundredth ∷ thousandth ∷ [])

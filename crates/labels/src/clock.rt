@@ -1,4 +1,4 @@
-// The clock that both labels have: written behind the hours, and read with them as a time of day.
+// The clock behind the hours, which both labels have, written; and with the hours, a time of day, read.
 
 use crate::buffer;
 use crate::digits;

@@ -1,14 +1,14 @@
-// The day count of a label's date. The digits tell the century and its year apart, so that no year is divided.
+// The day count of a label's date. The digits tell the century and its year apart, so that no year is divided by 100.
 
 use refusal::NumberAnswer;
 use refusal::Refusal;
 ghost use mathlib.Core.Path.{_≡_};
-ghost use Prim.Native.Nat.{_+_, _-_, _*_, _≤_, _<_};
+ghost use Prim.Native.Nat.{_+_, _*_, _≤_, _<_};
 ghost use lib.IntN.{pos};
 ghost use Rattle.refusal.specs.Outcome.{numberOutcome};
-ghost use Rattle.calendar.specs.Closed.{leapDay, monthDays, before};
+ghost use Rattle.calendar.specs.Closed.{leapDay};
 ghost use Rattle.calendar.specs.Answers.{daysAnswer};
-ghost use Rattle.labels.specs.Parts.{DateDigits};
+ghost use Rattle.labels.specs.Parts.{DateDigits, monthEntry};
 
 // The days of four centuries, and of four years of one.
 const FOUR_CENTURIES: u64 = 146097;
@@ -47,7 +47,7 @@ fn leap_day(century: u64, year: u64) -> u64
 // The length of a month, and 32 times the days of the year before it, one more of these in a common year.
 fn month_entry(leap: u64, month: u64) -> u64
     requires { ⌜ (leap ≤ 1) × ((1 ≤ month) × (month ≤ 12)) ⌝ }
-    ensures { λ r. ⌜ (r ≡ 32 * (before leap month + 1 - leap) + monthDays leap month) × (r < 12000) ⌝ }
+    ensures { λ r. ⌜ (r ≡ monthEntry leap month) × (r < 12000) ⌝ }
 {
     match 2 * month + leap {
         2 => 32 * 1 + 31,

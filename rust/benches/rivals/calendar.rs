@@ -67,7 +67,7 @@ pub fn days_of<const SHIFTS: bool>(date: Parts) -> i64 {
 }
 
 #[inline(always)]
-fn leap(year: u32) -> bool {
+const fn leap(year: u32) -> bool {
     year & (if year % 100 == 0 { 15 } else { 3 }) == 0
 }
 
@@ -76,8 +76,8 @@ static LENGTHS: [u8; 13] = [0, 31, 28, 31, 30, 31, 30, 31, 31, 30, 31, 30, 31];
 static DAYS_BEFORE: [u16; 13] = [0, 0, 31, 59, 90, 120, 151, 181, 212, 243, 273, 304, 334];
 
 #[inline(always)]
-pub fn month_length(year: u32, month: u32) -> u32 {
-    u32::from(LENGTHS[month as usize]) + (u32::from(month == 2) & u32::from(leap(year)))
+pub const fn month_length(year: u32, month: u32) -> u32 {
+    LENGTHS[month as usize] as u32 + ((month == 2) as u32 & leap(year) as u32)
 }
 
 /// The year, or refusal 1.

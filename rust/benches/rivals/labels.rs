@@ -1,7 +1,7 @@
 //! Labels: written two digits at a time, from a table or by a division, and read.
 
 use super::calendar::{date_of, month_length, Parts, BY_SHIFTS};
-use super::instants::{checked, day_and_time, joined, HOUR, SECOND};
+use super::instants::{checked, day_and_time, joined, DAY, HOUR, MINUTE, SECOND};
 use super::{returned, to_place};
 use core::slice;
 use ovenquill::{Cue, INSTANT_LABEL_BYTES, POSITIONS};
@@ -150,9 +150,9 @@ const fn words(shape: &[u8; INSTANT_LABEL_BYTES]) -> [u64; 3] {
 const ZEROS: [u64; 3] = words(b"0000-00-00t00:00:00.000z");
 const ROOMS: [u64; 3] = words(b"vvvv\x7fvv\x7fvv\x7fvv\x7fvv\x7fvv\x7fvvv\x7f");
 
-/// The same, eight bytes at a time.
+/// The values of a label's digits, eight bytes at a time, and 0 at its marks.
 #[inline(always)]
-fn read_by_words(label: &[u8; INSTANT_LABEL_BYTES]) -> Result<i64, i64> {
+fn values(label: &[u8; INSTANT_LABEL_BYTES]) -> Result<[u64; 3], i64> {
     const HIGH: u64 = 0x8080_8080_8080_8080;
     const LETTERS: [u64; 3] = words(&SMALL);
     let word = |at: usize| u64::from_le_bytes(label[at..at + 8].try_into().expect("eight bytes"));
@@ -165,13 +165,70 @@ fn read_by_words(label: &[u8; INSTANT_LABEL_BYTES]) -> Result<i64, i64> {
     if wrong & HIGH != 0 {
         return Err(8);
     }
-    let digit = |place: usize| (values[place / 8] >> (8 * (place % 8))) as u32 & 0xff;
-    let pair = |place: usize| {
-        let word = values[place / 8];
-        ((word * 10 + (word >> 8)) >> (8 * (place % 8))) as u32 & 0xff
-    };
+    Ok(values)
+}
+
+/// The numbers of two digits, each in the byte of its tens.
+#[inline(always)]
+fn pairs(values: [u64; 3]) -> [u64; 3] {
+    values.map(|word| word * 10 + (word >> 8))
+}
+
+/// One byte of a label's words.
+#[inline(always)]
+fn byte(words: [u64; 3], place: usize) -> u32 {
+    (words[place / 8] >> (8 * (place % 8))) as u32 & 0xff
+}
+
+/// The instant of a label, or a refusal: eight bytes at a time.
+#[inline(always)]
+fn read_by_words(label: &[u8; INSTANT_LABEL_BYTES]) -> Result<i64, i64> {
+    let values = values(label)?;
+    let pair = |place: usize| byte(pairs(values), place);
     let date = Parts { year: pair(0) * 100 + pair(2), month: pair(5), day: pair(8) };
-    instant_of(date, pair(11), pair(14), pair(17), digit(20) * 100 + pair(21))
+    instant_of(date, pair(11), pair(14), pair(17), byte(values, 20) * 100 + pair(21))
+}
+
+/// By twice the month and the leap day: a month's length, and 32 times the days before it, one more in a common year; 0 for no
+/// month.
+static MONTHS: [u16; 256] = {
+    let mut months = [0; 256];
+    let mut leap = 0;
+    while leap < 2 {
+        let mut before = 1 - leap;
+        let mut month = 1;
+        while month <= 12 {
+            let length = month_length(if leap == 1 { 4 } else { 1 }, month as u32) as usize;
+            months[2 * month + leap] = (32 * before + length) as u16;
+            before += length;
+            month += 1;
+        }
+        leap += 1;
+    }
+    months
+};
+
+/// The same, with the date by the century and the year of it, which the digits tell apart: the steps of the library.
+#[inline(always)]
+fn read_by_century(label: &[u8; INSTANT_LABEL_BYTES]) -> Result<i64, i64> {
+    let values = values(label)?;
+    let pair = |place: usize| u64::from(byte(pairs(values), place));
+    let (century, year, month, day) = (pair(0), pair(2), pair(5), pair(8));
+    let leap = u64::from((if year == 0 { century } else { year }) % 4 == 0);
+    let entry = u64::from(MONTHS[(2 * month + leap) as usize & 0xff]);
+    let (hour, minute, second) = (pair(11), pair(14), pair(17));
+    let no_day = day.wrapping_sub(1) >= entry % 32;
+    if no_day | (hour > 23) | (minute > 59) | (second > 59) {
+        return Err(match month {
+            1..=12 if no_day => 3,
+            1..=12 => 5,
+            _ => 2,
+        });
+    }
+    let days = 146097 * century / 4 + 1461 * year / 4 + entry / 32 + day;
+    let rest = second * SECOND as u64 + u64::from(byte(values, 20)) * 100 + pair(21);
+    let minutes = days as i64 * (DAY / MINUTE) + (hour * 60 + minute) as i64;
+    Ok(minutes * MINUTE + (rest as i64 - 719529 * DAY))
 }
 
 /// The instant of the numbers of a label, or a refusal.
@@ -190,12 +247,18 @@ fn instant_of(date: Parts, hour: u32, minute: u32, second: u32, millisecond: u32
     Ok(joined(date, hour, minute, second, millisecond))
 }
 
+/// The three ways of reading a label.
+pub const BY_BYTES: u8 = 0;
+pub const BY_WORDS: u8 = 1;
+pub const BY_CENTURY: u8 = 2;
+
 #[inline(never)]
-pub unsafe extern "C" fn read_instant<const WORDS: bool>(label: *const u8, length: usize, instant: *mut i64) -> i64 {
-    let answer = match <&[u8; INSTANT_LABEL_BYTES]>::try_from(slice::from_raw_parts(label, length)) {
-        Ok(label) if WORDS => read_by_words(label),
-        Ok(label) => read_by_bytes(label),
-        Err(_) => Err(8),
+pub unsafe extern "C" fn read_instant<const WAY: u8>(label: *const u8, length: usize, instant: *mut i64) -> i64 {
+    let answer = match (<&[u8; INSTANT_LABEL_BYTES]>::try_from(slice::from_raw_parts(label, length)), WAY) {
+        (Ok(label), BY_BYTES) => read_by_bytes(label),
+        (Ok(label), BY_WORDS) => read_by_words(label),
+        (Ok(label), _) => read_by_century(label),
+        (Err(_), _) => Err(8),
     };
     to_place(instant, answer)
 }

@@ -1,5 +1,5 @@
-//! Document 01 and change request One in plain Rust, written from their text and sharing nothing with the library but the
-//! types of dates, fields, cues and constants. The calendar is a table of every day, built by stepping from each day to the
+//! Document 01 and change requests One and Three in plain Rust, written from their text and sharing nothing with the library
+//! but the types of dates, fields, cues and constants. The calendar is a table of every day, built by stepping from each day to the
 //! next; instants go by `div_euclid` and `rem_euclid`, labels by `write!`, the reader of instants byte by byte, timestamps
 //! and cue lines by splitting them at their marks and blanks, and the constants by trying every n.
 

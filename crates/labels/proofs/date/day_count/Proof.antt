@@ -1,5 +1,6 @@
 -- The month is tested by itself, and then the day against the length that the month's entry has; the sum is the day's number.
-use Rattle.labels.proofs.LabelDates.{entry, entry-days, dateSum, date-sum, count-fits, count-made}
+use Rattle.labels.specs.Parts.{monthEntry}
+use Rattle.labels.proofs.LabelDates.{entry-days, dateSum, date-sum, count-fits, count-made}
 use Rattle.calendar.specs.Closed.{leapDay, monthDays, Valid, dayNumber, toYear}
 use Rattle.calendar.proofs.Centuries.{yearZero, month-refuses, day-refuses, valid-days}
 use Rattle.calendar.proofs.Leap.{leap-le}
@@ -43,8 +44,8 @@ module _ (c : tie.After-month-entry) where
   month-high : start .args .month ≤ 12
   month-high = ltb-false 12 (start .args .month) (c .before .before .if2 .left)
 
-  entry-is : c .month-entry .result ≡ entry (leapDay (yearOf start)) (start .args .month)
-  entry-is = c .month-entry .ensures .0 ∙ ap (λ l. entry l (start .args .month)) (c .before .leap-day .ensures .0)
+  entry-is : c .month-entry .result ≡ monthEntry (leapDay (yearOf start)) (start .args .month)
+  entry-is = c .month-entry .ensures .0 ∙ ap (λ l. monthEntry l (start .args .month)) (c .before .leap-day .ensures .0)
 
   length-is : c .month-entry .result % 32 ≡ monthDays (leapDay (yearOf start)) (start .args .month)
   length-is =

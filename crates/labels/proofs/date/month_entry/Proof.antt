@@ -1,5 +1,6 @@
 -- Each arm has the entry that its key stands for.
-use Rattle.labels.proofs.LabelDates.{entry, entry-at, no-key-left}
+use Rattle.labels.specs.Parts.{monthEntry}
+use Rattle.labels.proofs.LabelDates.{entry-at, no-key-left}
 use Rattle.calendar.specs.Closed.{before, monthDays}
 use mathlib.Core.Path.{_≡_}
 use Prim.Native.Nat.{ℕ, _+_, _*_, _/_, _%_, _<_}
@@ -159,7 +160,7 @@ add-result-24 c = search needs
 
 -- the month and the leap day make the key k
 at : (c : tie.Start) (k : ℕ) → 2 * c .args .month + c .args .leap ≡ k →
-    (entry (k % 2) (k / 2) ≡ entry (c .args .leap) (c .args .month)) × (entry (k % 2) (k / 2) < 12000)
+    (monthEntry (k % 2) (k / 2) ≡ monthEntry (c .args .leap) (c .args .month)) × (monthEntry (k % 2) (k / 2) < 12000)
 at c = entry-at (c .args .leap) (c .args .month) (c .pre .0) (c .pre .1 .0) (c .pre .1 .1)
 
 returns : tie.Need-returns

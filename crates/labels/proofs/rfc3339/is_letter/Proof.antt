@@ -1,11 +1,13 @@
-use mathlib.Core.Bool.{Bool, true, false, cond, _&&_, _||_}
-use mathlib.Core.Path.{_≡_, refl, sym, ap, ap₂, _∙_}
+use mathlib.Core.Logic.{⊎-elim}
+use mathlib.Core.Bool.{true, cond, _&&_, _||_}
+use mathlib.Core.Path.{_≡_, sym, ap, ap₂, _∙_}
 use native.Mathlib.Omega.{arith}
-use borrow.Author.Tests.{eq-eqb, ne-eqb, eqb-true}
+use borrow.Author.Tests.{eq-eqb, ne-eqb}
 use lib.Dec.{eqb}
-use Prim.Native.Nat.{ℕ, _+_, _≤_}
+use Prim.Native.Nat.{ℕ, _+_}
 use Rattle.numbers.proofs.Bools.{no-both}
-use Rattle.labels.specs.Digits.{isDigit, letterT, letterZ, hasSmall, small, fitsOne}
+use Rattle.labels.specs.Digits.{isDigit, hasSmall, small, fitsOne}
+use Rattle.labels.specs.Timings.{letter-is}
 use Rattle.labels.proofs.rfc3339.is_letter.Statement.{statement}
 use Rattle.labels.proofs.rfc3339.is_letter.Tie as tie
 
@@ -14,15 +16,8 @@ letter-fits : (letter byte : ℕ) → hasSmall letter ≡ true → fitsOne lette
 letter-fits letter byte h =
     ap₂ (λ d t. cond d (isDigit byte) ((t && eqb byte (small letter)) || eqb byte letter)) (ne-eqb letter 48 (λ e. no-both _ h (ap hasSmall e))) h
 
-small-le : (letter : ℕ) → hasSmall letter ≡ true → letter ≤ 90
-small-le letter = go (eqb letter letterT) refl
-  where
-    go : (t : Bool) → eqb letter letterT ≡ t → (t || eqb letter letterZ) ≡ true → letter ≤ 90
-    go true e h = omega (arith, eqb-true letter letterT e)
-    go false e h = omega (arith, eqb-true letter letterZ h)
-
 add-if1 : tie.Need-add-if1
-add-if1 c = omega (arith, small-le (c .args .letter) (c .pre))
+add-if1 c = ⊎-elim (λ e. omega arith) (λ e. omega arith) (letter-is (c .args .letter) (c .pre))
 
 returns : tie.Need-returns
 returns c = let a = c .before .args in

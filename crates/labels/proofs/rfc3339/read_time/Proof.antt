@@ -4,7 +4,8 @@ use mathlib.Core.Path.{refl, sym, _∙_}
 use native.Mathlib.Omega.{arith}
 use Rattle.labels.proofs.Words.{bytes}
 use Rattle.labels.proofs.ReadValues.{ValuesRead}
-use Rattle.labels.proofs.Reading.{clockShape, fractionShape, two-read, two-wrong, wrong-first, wrong-last, wrong-digits, clock-read, fraction-read, time-read}
+use Rattle.labels.proofs.Shapes.{clockShape, fractionShape}
+use Rattle.labels.proofs.Reading.{two-read, two-wrong, wrong-first, wrong-last, wrong-digits, clock-read, fraction-read, time-read}
 use Rattle.labels.specs.Words.{partOf, OneWord}
 use borrow.Author.Needs.{needs}
 use Rattle.labels.proofs.rfc3339.read_time.Statement.{statement}
