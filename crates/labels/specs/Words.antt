@@ -58,9 +58,12 @@ abbrev pub readValues : (shape : List ℕ) (m : ℕ) (other : List ℕ) (n : ℕ
 readValues shape m other n =
     cond (fits shape (textOf shape m) && fits other (textOf other n)) (Read (word (above shape (textOf shape m))) (word (above other (textOf other n)))) Malformed
 
--- two digits from byte k of some values on
+-- the numbers of two digits of some values, each in the byte of its tens; and that from byte k on
+abbrev pub pairs : (values : ℕ) → ℕ
+pairs values = values * 10 + values / 256
+
 abbrev pub pairOf : (values k : ℕ) → ℕ
-pairOf values k = byteOf (values * 10 + values / 256) k
+pairOf values k = byteOf (pairs values) k
 
 -- the number that the first of some values make as digits
 abbrev pub numberOf : (values count : ℕ) → ℕ

@@ -39,8 +39,7 @@ pub fn time_of_day(clock: u64, fraction: u64) -> NumberAnswer
     ensures { λ r. ⌜ numberOutcome r ≡ timeAnswer (pos (pairOf clock 0)) (pos (pairOf clock 3)) (pos (pairOf clock 6)) (pos (numberOf fraction 4)) ⌝ }
 {
     // Of the pairs of digits, that of the hours is the lowest byte and that of the minutes the fourth: 60 times the first is added.
-    let pairs = clock * 10 + clock / 256;
-    let minutes = (pairs & 0xff00_00ff) * 0x3c00_0001 / 0x100_0000 % 0x1_0000;
+    let minutes = (digits::pairs(clock) & 0xff00_00ff) * 0x3c00_0001 / 0x100_0000 % 0x1_0000;
     if minutes > 1439 || clock / 0x100_0000 % 0x1_0000_0000 + TENS_ROOM & HIGHEST_BITS != 0 {
         return NumberAnswer::Refused(Refusal::TimeOutOfRange);
     }

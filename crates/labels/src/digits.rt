@@ -5,7 +5,7 @@ ghost use Prim.Native.Nat.{_+_, _^_, _≤_, _<_};
 ghost use mathlib.Core.List.{_∷_, _++_};
 ghost use lib.ListN.{length};
 ghost use Rattle.labels.specs.Digits.{digits};
-ghost use Rattle.labels.specs.Words.{word, partOf, roomOne, rooms, OneWord, readValues, pairOf, numberOf, Thousandths};
+ghost use Rattle.labels.specs.Words.{word, partOf, roomOne, rooms, OneWord, readValues, pairs, pairOf, numberOf, Thousandths};
 
 // The byte of the digit 0.
 pub const ZERO: u32 = 48;
@@ -63,12 +63,20 @@ pub fn read_values(first: u64, shape: &[u8], second: u64, other: &[u8]) -> Value
     Values::Read(v, w)
 }
 
-// The number of two digits, from byte k of some values on.
+// The numbers of two digits of some values, each in the byte of its tens.
+pub fn pairs(values: u64) -> u64
+    requires { ⌜ values < 2 ^ 60 ⌝ }
+    ensures { λ r. ⌜ r ≡ pairs values ⌝ }
+{
+    values * 10 + values / 256
+}
+
+// One of them, from byte k of the values on.
 pub fn pair(values: u64, k: usize) -> u32
     requires { ⌜ (values < 2 ^ 60) × (k < 8) ⌝ }
     ensures { λ r. ⌜ r ≡ pairOf values k ⌝ }
 {
-    (((values * 10 + values / 256) >> (8 * k)) % 256) as u32
+    ((pairs(values) >> (8 * k)) % 256) as u32
 }
 
 // The number of three digits behind a mark. Of the pairs, the first decimal stands in the lowest byte, and the other two as one in the
@@ -77,8 +85,7 @@ pub fn thousandths(values: u64) -> u64
     requires { ⌜ Thousandths values ⌝ }
     ensures { λ r. ⌜ (r ≡ numberOf values 4) × (r < 1000) ⌝ }
 {
-    let pairs = values * 10 + values / 256;
-    (pairs & 0xff_00ff) * 0x64_0001 / 0x1_0000 % 0x1_0000
+    (pairs(values) & 0xff_00ff) * 0x64_0001 / 0x1_0000 % 0x1_0000
 }
 
 // Eight bytes of a text as one number, and four, without a loop, which keeps them one load where the numbers are used further.
