@@ -159,7 +159,7 @@ fn read_time(century: u64, year: u64, month: u64, day: u64, part: &[u8]) -> Numb
     join(century, year, month, day, clock, fraction)
 }
 
-// Whether a byte is one of the two letters, as a capital or small.
+// Whether a byte is that letter, as a capital or small.
 fn is_letter(letter: u8, byte: u8) -> bool
     requires { ⌜ hasSmall letter ≡ true ⌝ }
     ensures { λ r. ⌜ r ≡ fitsOne letter byte ⌝ }
