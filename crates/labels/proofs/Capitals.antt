@@ -1,24 +1,28 @@
 -- Small letters: every label is answered as document 01's reader answers it in capitals, and refusal 8 shrinks by the forms with small
 -- letters.
-use Prim.Native.Nat.{ℕ}
+use Prim.Native.Nat.{ℕ, _≤_, _<_}
 use mathlib.Core.Path.{_≡_, refl, sym, ap, ap₂, _∙_}
 use mathlib.Core.Logic.{_↔_, ⊎-elim}
 use mathlib.Core.Bool.{Bool, true, false, cond, not, _&&_, _||_, and-false}
-use mathlib.Core.List.{List, [], _∷_, _++_}
+use mathlib.Core.List.{List, [], _∷_, _++_, map-append}
+use native.Mathlib.Omega.{arith}
 use borrow.Author.Tests.{eqb-true, eqb-false, ne-eqb, not-true}
 use lib.Dec.{eqb}
 use lib.IntN.{ℤ}
-use lib.ListN.{drop}
+use lib.ListN.{length, getD, take, drop, take-append-drop, drop-of-length-le}
+use lib.Seq.{drop-cons, drop-drop}
 use Rattle.refusal.specs.Outcome.{Outcome, refused}
 use Rattle.numbers.proofs.Bools.{no-both, or-no, and-left, and-right}
 use Rattle.labels.specs.Clock.{colon, clockText}
 use Rattle.labels.specs.Digits.{digits, isDigit, letterT, letterZ, hasSmall, small, isMark, fitsOne, fits}
-use Rattle.labels.specs.Words.{simple}
+use Rattle.labels.specs.Words.{partOf, simple}
 use Rattle.labels.specs.Rfc3339.{decimals, dateShape, timeShape, readFields, readAnswer}
 use Rattle.labels.specs.Capitals.{capital, inCapitals, fitsExactly, capitalsAnswer, isSmallForm}
 use Rattle.labels.specs.Timings.{letter-is}
+use Rattle.labels.proofs.Decimal.{digit-range}
 use Rattle.labels.proofs.OneByte.{one-byte}
 use Rattle.labels.proofs.Gaps.{simple-first, simple-rest}
+use Rattle.labels.proofs.Shapes.{fits-length, fits-append, fits-from}
 use Rattle.labels.proofs.Laws.{capitals-fields, eight-if, eight-exactly}
 
 -- ---- the four forms
@@ -128,6 +132,26 @@ fits-capitals (s ∷ ss) (b ∷ bs) n =
     let o = or-no (eqb s (small letterT)) (eqb s (small letterZ)) (not-true is-small (and-left (not is-small) (noSmall ss) n)) in
     ap₂ _&&_ (one-capital s b (o .0) (o .1)) (fits-capitals ss bs (and-right (not is-small) (noSmall ss) n))
 
+-- a text of a shape without T and Z, capital or small, has no small letter
+no-letters : (shape text : List ℕ) → simple shape ≡ true → noSmall shape ≡ true → fits shape text ≡ true → inCapitals text ≡ text
+no-letters [] [] p n h = refl
+no-letters [] (b ∷ bs) p n h = no-both false h refl
+no-letters (s ∷ ss) [] p n h = no-both false h refl
+no-letters (s ∷ ss) (b ∷ bs) p n h =
+    let is-small = eqb s (small letterT) || eqb s (small letterZ) in
+    let o = or-no (eqb s (small letterT)) (eqb s (small letterZ)) (not-true is-small (and-left (not is-small) (noSmall ss) n)) in
+    let f = sym (one-byte s b (simple-first s ss p)) ∙ and-left (fitsOne s b) (fits ss bs) h in
+    ap₂ _∷_ (one (eqb s 48) (o .0) (o .1) f) (no-letters ss bs (simple-rest s ss p) (and-right (not is-small) (noSmall ss) n) (and-right (fitsOne s b) (fits ss bs) h))
+  where
+    kept : (eqb b (small letterT) ≡ false) → (eqb b (small letterZ) ≡ false) → capital b ≡ b
+    kept t z = ap₂ (λ t z. cond t letterT (cond z letterZ b)) t z
+
+    one : (d : Bool) → eqb s (small letterT) ≡ false → eqb s (small letterZ) ≡ false → cond d (isDigit b) (eqb b s) ≡ true → capital b ≡ b
+    one true t z f =
+        let r = digit-range b f in
+        kept (ne-eqb b (small letterT) (λ e. omega (arith, r .1, e))) (ne-eqb b (small letterZ) (λ e. omega (arith, r .1, e)))
+    one false t z f = let e = eqb-true b s f in kept (ap (λ b. eqb b (small letterT)) e ∙ t) (ap (λ b. eqb b (small letterZ)) e ∙ z)
+
 module _ (label : List ℕ) where
   abbrev in-shape : Bool
   in-shape = fits (dateShape ++ timeShape decimals) label
@@ -138,6 +162,31 @@ module _ (label : List ℕ) where
   -- a label is of the shape exactly if it is in capitals, or of one of the forms with small letters
   pub in-shape-exactly : in-shape ≡ exactly || isSmallForm label
   in-shape-exactly = four-forms (digits 0 2 ++ colon ∷ clockText decimals 0 0 0) refl dateShape label refl
+
+  -- in capitals, such a label differs in its bytes 10 and 23 at most
+  pub two-letters :
+      in-shape ≡ true → inCapitals label ≡ take 10 label ++ (capital (getD label 10 0) ∷ (partOf 11 12 label ++ (capital (getD label 23 0) ∷ [])))
+  two-letters h =
+      let middle = digits 0 2 ++ colon ∷ clockText decimals 0 0 0 in
+      let l = fits-length (dateShape ++ timeShape decimals) label h in
+      let a : 10 < length label = omega arith in
+      let b : 23 < length label = omega arith in
+      let c : length label ≤ 24 = omega arith in
+      let date = sym (fits-append dateShape (timeShape decimals) label) ∙ h in
+      let time = sym (ap (fits (timeShape decimals)) (drop-cons label 10 0 a)) ∙ and-right (fits dateShape (take 10 label)) _ date in
+      let rest = sym (fits-from middle (letterZ ∷ []) label 11) ∙ and-right (fitsOne letterT (getD label 10 0)) _ time in
+      let front : inCapitals (take 10 label) ≡ take 10 label = no-letters dateShape (take 10 label) refl refl (and-left (fits dateShape (take 10 label)) _ date) in
+      let inside : inCapitals (partOf 11 12 label) ≡ partOf 11 12 label =
+      no-letters middle (partOf 11 12 label) refl refl (and-left (fits middle (partOf 11 12 label)) _ rest) in
+      let end : inCapitals (drop 12 (drop 11 label)) ≡ capital (getD label 23 0) ∷ [] =
+      ap inCapitals (drop-drop 12 11 label ∙ drop-cons label 23 0 b) ∙ ap (λ r. capital (getD label 23 0) ∷ inCapitals r) (drop-of-length-le label c) in
+      let behind : inCapitals (drop 11 label) ≡ partOf 11 12 label ++ capital (getD label 23 0) ∷ [] =
+      ap inCapitals (sym (take-append-drop 12 (drop 11 label)))
+      ∙ map-append capital (partOf 11 12 label) (drop 12 (drop 11 label))
+      ∙ (λ i. inside i ++ end i) in
+      let back : inCapitals (drop 10 label) ≡ capital (getD label 10 0) ∷ (partOf 11 12 label ++ capital (getD label 23 0) ∷ []) =
+      ap inCapitals (drop-cons label 10 0 a) ∙ ap (λ r. capital (getD label 10 0) ∷ r) behind in
+      ap inCapitals (sym (take-append-drop 10 label)) ∙ map-append capital (take 10 label) (drop 10 label) ∙ (λ i. front i ++ back i)
 
   -- ---- what is read
 

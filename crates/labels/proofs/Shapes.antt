@@ -2,7 +2,7 @@
 use Prim.Native.Nat.{ℕ, zero, suc, _+_, _/_, _%_}
 use mathlib.Core.Path.{_≡_, refl, sym, ap, ap₂, _∙_}
 use mathlib.Core.Logic.{⊎-elim}
-use mathlib.Core.Bool.{Bool, true, false, _&&_, _||_, and-false, and-assoc}
+use mathlib.Core.Bool.{Bool, true, false, _&&_, _||_, and-assoc}
 use mathlib.Core.List.{List, [], _∷_, _++_}
 use borrow.Author.Tests.{eqb-true}
 use lib.Dec.{eqb}
@@ -25,11 +25,18 @@ abbrev pub fractionShape : List ℕ
 fractionShape = point ∷ 48 ∷ 48 ∷ 48 ∷ []
 
 -- a text that fits is as long as the shape
+pub fits-length : (shape text : List ℕ) → fits shape text ≡ true → length shape ≡ length text
+fits-length [] [] h = refl
+fits-length [] (b ∷ bs) h = no-both false h refl
+fits-length (s ∷ ss) [] h = no-both false h refl
+fits-length (s ∷ ss) (b ∷ bs) h = ap suc (fits-length ss bs (and-right (fitsOne s b) (fits ss bs) h))
+
 pub uneven : (shape text : List ℕ) → (length shape ≡ length text → ⊥) → fits shape text ≡ false
-uneven [] [] h = absurd (h refl)
-uneven [] (b ∷ bs) h = refl
-uneven (s ∷ ss) [] h = refl
-uneven (s ∷ ss) (b ∷ bs) h = rw (uneven ss bs (λ e. h (ap suc e))) (and-false (fitsOne s b))
+uneven shape text h = go (fits shape text) refl
+  where
+    go : (t : Bool) → fits shape text ≡ t → t ≡ false
+    go true e = absurd (h (fits-length shape text e))
+    go false e = refl
 
 -- ---- a shape of two parts
 
