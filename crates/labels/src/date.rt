@@ -18,6 +18,36 @@ const FOUR_YEARS: u64 = 1461;
 // The number of 1970-01-01, where 0000-01-01 has 1.
 const EPOCH: i64 = 719529;
 
+// The entries of the months: a length, and 32 times the days of the year before it, one more of these in a common year; from March on
+// that is the same in both.
+const JANUARY: u64 = 32 * 1 + 31;
+
+const LEAP_JANUARY: u64 = 32 * 0 + 31;
+
+const FEBRUARY: u64 = 32 * 32 + 28;
+
+const LEAP_FEBRUARY: u64 = 32 * 31 + 29;
+
+const MARCH: u64 = 32 * 60 + 31;
+
+const APRIL: u64 = 32 * 91 + 30;
+
+const MAY: u64 = 32 * 121 + 31;
+
+const JUNE: u64 = 32 * 152 + 30;
+
+const JULY: u64 = 32 * 182 + 31;
+
+const AUGUST: u64 = 32 * 213 + 31;
+
+const SEPTEMBER: u64 = 32 * 244 + 30;
+
+const OCTOBER: u64 = 32 * 274 + 31;
+
+const NOVEMBER: u64 = 32 * 305 + 30;
+
+const DECEMBER: u64 = 32 * 335 + 31;
+
 // The day count of a date whose year is 100 times the century and the year of it. 2 and 3 as the calendar, and never 1.
 pub fn day_count(century: u64, year: u64, month: u64, day: u64) -> NumberAnswer
     requires { ⌜ DateDigits century year month day ⌝ }
@@ -44,36 +74,36 @@ fn leap_day(century: u64, year: u64) -> u64
     (n % 4 == 0) as u64
 }
 
-// The length of a month, and 32 times the days of the year before it, one more of these in a common year.
+// The entry of a month. Each number has an arm of its own, so that the compiler makes a table of them.
 fn month_entry(leap: u64, month: u64) -> u64
     requires { ⌜ (leap ≤ 1) × ((1 ≤ month) × (month ≤ 12)) ⌝ }
     ensures { λ r. ⌜ (r ≡ monthEntry leap month) × (r < 12000) ⌝ }
 {
     match 2 * month + leap {
-        2 => 32 * 1 + 31,
-        3 => 32 * 0 + 31,
-        4 => 32 * 32 + 28,
-        5 => 32 * 31 + 29,
-        6 => 32 * 60 + 31,
-        7 => 32 * 60 + 31,
-        8 => 32 * 91 + 30,
-        9 => 32 * 91 + 30,
-        10 => 32 * 121 + 31,
-        11 => 32 * 121 + 31,
-        12 => 32 * 152 + 30,
-        13 => 32 * 152 + 30,
-        14 => 32 * 182 + 31,
-        15 => 32 * 182 + 31,
-        16 => 32 * 213 + 31,
-        17 => 32 * 213 + 31,
-        18 => 32 * 244 + 30,
-        19 => 32 * 244 + 30,
-        20 => 32 * 274 + 31,
-        21 => 32 * 274 + 31,
-        22 => 32 * 305 + 30,
-        23 => 32 * 305 + 30,
-        24 => 32 * 335 + 31,
-        25 => 32 * 335 + 31,
+        2 => JANUARY,
+        3 => LEAP_JANUARY,
+        4 => FEBRUARY,
+        5 => LEAP_FEBRUARY,
+        6 => MARCH,
+        7 => MARCH,
+        8 => APRIL,
+        9 => APRIL,
+        10 => MAY,
+        11 => MAY,
+        12 => JUNE,
+        13 => JUNE,
+        14 => JULY,
+        15 => JULY,
+        16 => AUGUST,
+        17 => AUGUST,
+        18 => SEPTEMBER,
+        19 => SEPTEMBER,
+        20 => OCTOBER,
+        21 => OCTOBER,
+        22 => NOVEMBER,
+        23 => NOVEMBER,
+        24 => DECEMBER,
+        25 => DECEMBER,
         _ => 0,
     }
 }
