@@ -4,6 +4,8 @@
 //     split_instant(instant)                                                    fields          refusal 4
 //     join_instant(year, month, day, hour, minute, second, millisecond)         instant         refusals 1, 2, 3, then 5
 //     index_days(instants, days)                                                days written    refusals 12, then 4 with the place
+//
+// The module `units` has the units of an instant and its range.
 
 use calendar::DateAnswer;
 use refusal::NumberAnswer;

@@ -91,12 +91,15 @@ one-capital s b no-t no-z = go (eqb b (small letterT)) (eqb b (small letterZ)) r
   where
     -- of a small letter
     of : (letter : ℕ) → isDigit (small letter) ≡ false → isDigit letter ≡ false → eqb s (small letter) ≡ false →
-        (s ≡ letterT → isMark s (small letter) ≡ eqb letter s) → (s ≡ letterZ → isMark s (small letter) ≡ eqb letter s) →
-        (hasSmall letter ≡ true) → fitsOne s (small letter) ≡ cond (eqb s 48) (isDigit letter) (eqb letter s)
+        isMark letterT (small letter) ≡ eqb letter letterT → isMark letterZ (small letter) ≡ eqb letter letterZ →
+        hasSmall letter ≡ true → fitsOne s (small letter) ≡ cond (eqb s 48) (isDigit letter) (eqb letter s)
     of letter d e n t z l = ap₂ (cond (eqb s 48)) (d ∙ sym e) (by (hasSmall s) refl)
       where
+        at : {mark : ℕ} → isMark mark (small letter) ≡ eqb letter mark → s ≡ mark → isMark s (small letter) ≡ eqb letter s
+        at e x = ap (λ s. isMark s (small letter)) x ∙ e ∙ sym (ap (eqb letter) x)
+
         by : (u : Bool) → hasSmall s ≡ u → isMark s (small letter) ≡ eqb letter s
-        by true h = ⊎-elim t z (letter-is s h)
+        by true h = ⊎-elim (at t) (at z) (letter-is s h)
         by false h =
             ap (λ u. (u && eqb (small letter) (small s)) || eqb (small letter) s) h
             ∙ ne-eqb (small letter) s (λ x. eqb-false s (small letter) n (sym x))
@@ -104,12 +107,8 @@ one-capital s b no-t no-z = go (eqb b (small letterT)) (eqb b (small letterZ)) r
 
     go : (p q : Bool) → eqb b (small letterT) ≡ p → eqb b (small letterZ) ≡ q →
         fitsOne s b ≡ cond (eqb s 48) (isDigit (cond p letterT (cond q letterZ b))) (eqb (cond p letterT (cond q letterZ b)) s)
-    go true q e f =
-        ap (fitsOne s) (eqb-true b (small letterT) e)
-        ∙ of letterT refl refl no-t (λ x. ap (λ s. isMark s (small letterT)) x ∙ sym (ap (eqb letterT) x)) (λ x. ap (λ s. isMark s (small letterT)) x ∙ sym (ap (eqb letterT) x)) refl
-    go false true e f =
-        ap (fitsOne s) (eqb-true b (small letterZ) f)
-        ∙ of letterZ refl refl no-z (λ x. ap (λ s. isMark s (small letterZ)) x ∙ sym (ap (eqb letterZ) x)) (λ x. ap (λ s. isMark s (small letterZ)) x ∙ sym (ap (eqb letterZ) x)) refl
+    go true q e f = ap (fitsOne s) (eqb-true b (small letterT) e) ∙ of letterT refl refl no-t refl refl refl
+    go false true e f = ap (fitsOne s) (eqb-true b (small letterZ) f) ∙ of letterZ refl refl no-z refl refl refl
     go false false e f = ap (cond (eqb s 48) (isDigit b)) (by (hasSmall s) refl)
       where
         by : (u : Bool) → hasSmall s ≡ u → isMark s b ≡ eqb b s
@@ -123,14 +122,22 @@ abbrev noSmall : List ℕ → Bool
 noSmall [] = true
 noSmall (s ∷ ss) = not (eqb s (small letterT) || eqb s (small letterZ)) && noSmall ss
 
+first-not-small : (s : ℕ) (ss : List ℕ) → noSmall (s ∷ ss) ≡ true → (eqb s (small letterT) ≡ false) × (eqb s (small letterZ) ≡ false)
+first-not-small s ss n =
+    let is-small = eqb s (small letterT) || eqb s (small letterZ) in
+    or-no (eqb s (small letterT)) (eqb s (small letterZ)) (not-true is-small (and-left (not is-small) (noSmall ss) n))
+
+rest-not-small : (s : ℕ) (ss : List ℕ) → noSmall (s ∷ ss) ≡ true → noSmall ss ≡ true
+rest-not-small s ss n = and-right (not (eqb s (small letterT) || eqb s (small letterZ))) (noSmall ss) n
+
+-- a text fits exactly if it fits in capitals
 fits-capitals : (shape text : List ℕ) → noSmall shape ≡ true → fits shape text ≡ fitsExactly shape (inCapitals text)
 fits-capitals [] [] n = refl
 fits-capitals [] (b ∷ bs) n = refl
 fits-capitals (s ∷ ss) [] n = refl
 fits-capitals (s ∷ ss) (b ∷ bs) n =
-    let is-small = eqb s (small letterT) || eqb s (small letterZ) in
-    let o = or-no (eqb s (small letterT)) (eqb s (small letterZ)) (not-true is-small (and-left (not is-small) (noSmall ss) n)) in
-    ap₂ _&&_ (one-capital s b (o .0) (o .1)) (fits-capitals ss bs (and-right (not is-small) (noSmall ss) n))
+    let o = first-not-small s ss n in
+    ap₂ _&&_ (one-capital s b (o .0) (o .1)) (fits-capitals ss bs (rest-not-small s ss n))
 
 -- a text of a shape without T and Z, capital or small, has no small letter
 no-letters : (shape text : List ℕ) → simple shape ≡ true → noSmall shape ≡ true → fits shape text ≡ true → inCapitals text ≡ text
@@ -138,10 +145,9 @@ no-letters [] [] p n h = refl
 no-letters [] (b ∷ bs) p n h = no-both false h refl
 no-letters (s ∷ ss) [] p n h = no-both false h refl
 no-letters (s ∷ ss) (b ∷ bs) p n h =
-    let is-small = eqb s (small letterT) || eqb s (small letterZ) in
-    let o = or-no (eqb s (small letterT)) (eqb s (small letterZ)) (not-true is-small (and-left (not is-small) (noSmall ss) n)) in
+    let o = first-not-small s ss n in
     let f = sym (one-byte s b (simple-first s ss p)) ∙ and-left (fitsOne s b) (fits ss bs) h in
-    ap₂ _∷_ (one (eqb s 48) (o .0) (o .1) f) (no-letters ss bs (simple-rest s ss p) (and-right (not is-small) (noSmall ss) n) (and-right (fitsOne s b) (fits ss bs) h))
+    ap₂ _∷_ (one (eqb s 48) (o .0) (o .1) f) (no-letters ss bs (simple-rest s ss p) (rest-not-small s ss n) (and-right (fitsOne s b) (fits ss bs) h))
   where
     kept : (eqb b (small letterT) ≡ false) → (eqb b (small letterZ) ≡ false) → capital b ≡ b
     kept t z = ap₂ (λ t z. cond t letterT (cond z letterZ b)) t z
