@@ -19,10 +19,11 @@
 
 static const char blanks[] = " \t\r";
 
+/* By the weekday's number; there is no weekday 0. */
 static const char *const weekday_names[] = {
-    [OVENQUILL_SUNDAY] = "Sunday",       [OVENQUILL_MONDAY] = "Monday",     [OVENQUILL_TUESDAY] = "Tuesday",
-    [OVENQUILL_WEDNESDAY] = "Wednesday", [OVENQUILL_THURSDAY] = "Thursday", [OVENQUILL_FRIDAY] = "Friday",
-    [OVENQUILL_SATURDAY] = "Saturday",
+    [OVENQUILL_MONDAY] = "Monday",     [OVENQUILL_TUESDAY] = "Tuesday", [OVENQUILL_WEDNESDAY] = "Wednesday",
+    [OVENQUILL_THURSDAY] = "Thursday", [OVENQUILL_FRIDAY] = "Friday",   [OVENQUILL_SATURDAY] = "Saturday",
+    [OVENQUILL_SUNDAY] = "Sunday",
 };
 
 /* Prints the label and the weekday of an instant, and answers 0, or what a refused call answered. */

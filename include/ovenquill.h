@@ -36,7 +36,7 @@ extern "C" {
 
 /* The version of this header, in numbers and as a string. */
 #define OVENQUILL_VERSION_MAJOR 0
-#define OVENQUILL_VERSION_MINOR 3
+#define OVENQUILL_VERSION_MINOR 4
 #define OVENQUILL_VERSION_PATCH 0
 #define OVENQUILL_VERSION OVENQUILL_DOTTED_(OVENQUILL_VERSION_MAJOR, OVENQUILL_VERSION_MINOR, OVENQUILL_VERSION_PATCH)
 #define OVENQUILL_DOTTED_(major, minor, patch) OVENQUILL_STRING_(major.minor.patch)
@@ -114,14 +114,17 @@ extern "C" {
 #define OVENQUILL_POSITION_LABEL_MIN_BYTES 12
 #define OVENQUILL_POSITION_LABEL_MAX_BYTES 15
 
-/* Weekdays: what ovenquill_weekday answers. */
-#define OVENQUILL_SUNDAY 0
+/*
+ * Weekdays, what ovenquill_weekday answers: 1 Monday to 7 Sunday, as ISO 8601 numbers them. A table that is indexed by them has
+ * eight elements. They are not those of tm_wday in <time.h>, which are these modulo 7.
+ */
 #define OVENQUILL_MONDAY 1
 #define OVENQUILL_TUESDAY 2
 #define OVENQUILL_WEDNESDAY 3
 #define OVENQUILL_THURSDAY 4
 #define OVENQUILL_FRIDAY 5
 #define OVENQUILL_SATURDAY 6
+#define OVENQUILL_SUNDAY 7
 
 /* Refusals, as the calls answer them: each one's number, negated. */
 #define OVENQUILL_YEAR_OUT_OF_RANGE (-1)
@@ -225,7 +228,7 @@ int64_t ovenquill_days_from_civil(int64_t year, int64_t month, int64_t day, int6
 int64_t ovenquill_civil_from_days(int64_t days, ovenquill_date *date);
 
 /*
- * The weekday of a day count. Answers it, one of the weekdays above.
+ * The weekday of a day count. Answers it, OVENQUILL_MONDAY to OVENQUILL_SUNDAY, and never 0.
  *
  * Refusal:
  *   OVENQUILL_OUT_OF_RANGE   days outside OVENQUILL_FIRST_COUNT to OVENQUILL_LAST_COUNT

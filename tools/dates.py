@@ -2,14 +2,13 @@
 """Prints the first and the last day of every month of the calendar, from Python's datetime.
 
 A line for each month; for each of the two days: year, month, day, the days from the first day of the first year, and the
-weekday. Shares nothing with the library: it is what the program `dates` is held to. A year that datetime does not have is moved
+weekday as ISO 8601 numbers it. Shares nothing with the library: it is what the program `dates` is held to. A year that datetime does not have is moved
 by cycles of 400 years into those that it has; a cycle is 146097 days, which are whole weeks.
 """
 from datetime import MAXYEAR, MINYEAR, date, timedelta
 
 # Document 01, "Calendar rules".
 FIRST_YEAR, LAST_YEAR = 0, 9999
-WEEKDAYS = [1, 2, 3, 4, 5, 6, 0]    # the numbers of Monday to Sunday
 
 CYCLE_YEARS, CYCLE_DAYS = 400, 146097
 
@@ -31,7 +30,7 @@ def ordinal(day, cycles):
 
 def shown(day, cycles):
     year = day.year - CYCLE_YEARS * cycles
-    return f"{year} {day.month} {day.day} {ordinal(day, cycles) - FIRST} {WEEKDAYS[day.weekday()]}"
+    return f"{year} {day.month} {day.day} {ordinal(day, cycles) - FIRST} {day.isoweekday()}"
 
 
 FIRST_CYCLES = cycles_into_datetime(FIRST_YEAR)

@@ -86,7 +86,7 @@ extern "C" int64_t chrono_weekday(int64_t count)
     if (outside(count, first_count, last_count)) {
         return -4;
     }
-    return weekday{day_at(count)}.c_encoding();
+    return weekday{day_at(count)}.iso_encoding();
 }
 
 extern "C" int64_t chrono_is_leap(int64_t y)

@@ -7,7 +7,7 @@ use core::fmt;
 /// Makes [`Weekday`] of a list that has each weekday once: its name and its number.
 macro_rules! weekdays {
     ($($name:ident = $number:literal,)+) => {
-        /// A day of the week.
+        /// A day of the week. Its number is that of ISO 8601: 1 Monday to 7 Sunday.
         ///
         /// ```
         /// use ovenquill::{weekday, Weekday};
@@ -46,7 +46,8 @@ macro_rules! weekdays {
             /// for day in Weekday::ALL {
             ///     assert_eq!(Weekday::from_number(day.number()), Some(day));
             /// }
-            /// assert_eq!(Weekday::from_number(-1), None);
+            /// assert_eq!(Weekday::from_number(0), None);
+            /// assert_eq!(Weekday::from_number(8), None);
             /// ```
             pub const fn from_number(number: i64) -> Option<Weekday> {
                 match number {
@@ -70,22 +71,23 @@ macro_rules! weekdays {
 }
 
 weekdays! {
-    Sunday = 0,
     Monday = 1,
     Tuesday = 2,
     Wednesday = 3,
     Thursday = 4,
     Friday = 5,
     Saturday = 6,
+    Sunday = 7,
 }
 
 impl Weekday {
-    /// The number, which stands at each name.
+    /// The number, 1 Monday to 7 Sunday, which stands at each name.
     ///
     /// ```
     /// use ovenquill::Weekday;
     ///
-    /// assert_eq!(Weekday::Thursday.number(), Weekday::Wednesday.number() + 1);
+    /// assert_eq!(Weekday::Monday.number(), 1);
+    /// assert_eq!(Weekday::Sunday.number(), 7);
     /// ```
     pub const fn number(self) -> i64 {
         self as i64

@@ -1,5 +1,5 @@
 /*
- * Document 01 and change requests One and Three in plain C, written from their text and sharing nothing with the library:
+ * Document 01 and change requests One, Three and Four in plain C, written from their text and sharing nothing with the library:
  * years are counted one by one, labels go by snprintf, the reader of instants goes byte by byte, the readers of timestamps and
  * cue lines take one part after the other, and the constants go by trying every n. Each call here has the answer, and leaves
  * in what it is lent the bytes, that the library's call of the same name must have and leave: a date is three numbers, fields
@@ -18,7 +18,8 @@
 #define PAPER_FIRST_COUNT (-719528)
 #define PAPER_LAST_COUNT 2932896
 
-enum paper_weekday { SUNDAY, MONDAY, TUESDAY, WEDNESDAY, THURSDAY, FRIDAY, SATURDAY };
+/* As change request Four numbers them. */
+enum paper_weekday { MONDAY = 1, TUESDAY, WEDNESDAY, THURSDAY, FRIDAY, SATURDAY, SUNDAY };
 
 /* The weekdays of day 0 and of the six after it. */
 static const int64_t paper_week[7] = {THURSDAY, FRIDAY, SATURDAY, SUNDAY, MONDAY, TUESDAY, WEDNESDAY};

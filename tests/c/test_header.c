@@ -55,13 +55,13 @@ static void check_limits(void)
 
 static void check_weekdays(void)
 {
-    SAME(OVENQUILL_SUNDAY, SUNDAY);
     SAME(OVENQUILL_MONDAY, MONDAY);
     SAME(OVENQUILL_TUESDAY, TUESDAY);
     SAME(OVENQUILL_WEDNESDAY, WEDNESDAY);
     SAME(OVENQUILL_THURSDAY, THURSDAY);
     SAME(OVENQUILL_FRIDAY, FRIDAY);
     SAME(OVENQUILL_SATURDAY, SATURDAY);
+    SAME(OVENQUILL_SUNDAY, SUNDAY);
 }
 
 /* Each refusal by document 01's number; tests/test_readme.py holds their words to README's. */

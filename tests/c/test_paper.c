@@ -1,6 +1,6 @@
 /*
- * Document 01's rows, "Numbers to try", a week of dates by the names of their days, and the words of change request One on
- * reading positions and of Three on small letters. Compiled as C and as C++.
+ * Document 01's rows, "Numbers to try", and the words of change request One on reading positions, of Three on small letters
+ * and of Four on weekdays, with a week of dates by the names and the numbers of their days. Compiled as C and as C++.
  */
 #include <string.h>
 
@@ -29,7 +29,7 @@ static void check_weekday(int64_t year, int64_t month, int64_t day, int64_t week
 
 static void check_calendar(void)
 {
-    int64_t days = 0;
+    int64_t days = 0, number;
     ovenquill_date date = {0, 0, 0};
     check_date(-719528, 0, 1, 1);
     check_date(-719469, 0, 2, 29);
@@ -46,13 +46,16 @@ static void check_calendar(void)
     check_weekday(1969, 12, 31, OVENQUILL_WEDNESDAY);
     check_weekday(1970, 1, 1, OVENQUILL_THURSDAY);
     check_weekday(9999, 12, 31, OVENQUILL_FRIDAY);
-    check_weekday(2023, 5, 7, OVENQUILL_SUNDAY);
     check_weekday(2023, 5, 8, OVENQUILL_MONDAY);
     check_weekday(2023, 5, 9, OVENQUILL_TUESDAY);
     check_weekday(2023, 5, 10, OVENQUILL_WEDNESDAY);
     check_weekday(2023, 5, 11, OVENQUILL_THURSDAY);
     check_weekday(2023, 5, 12, OVENQUILL_FRIDAY);
     check_weekday(2023, 5, 13, OVENQUILL_SATURDAY);
+    check_weekday(2023, 5, 14, OVENQUILL_SUNDAY);
+    /* the same week by its numbers, from the Monday */
+    for (number = 1; number <= 7; number++)
+        check_weekday(2023, 5, 7 + number, number);
     same("year 0 is leap", 0, ovenquill_is_leap(0), 1);
     same("day after the last", 2932897, ovenquill_civil_from_days(2932897, &date), OVENQUILL_OUT_OF_RANGE);
     same("1900-02-29", 1900, ovenquill_days_from_civil(1900, 2, 29, &days), OVENQUILL_DAY_OUT_OF_RANGE);

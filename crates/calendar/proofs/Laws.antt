@@ -6,14 +6,14 @@ use mathlib.Core.Bool.{Bool, true, false, cond, not, _&&_}
 use native.Mathlib.Numerals.{add-one}
 use native.Mathlib.Omega.{arith}
 use lib.Bits.{bitOr, bitXor}
-use lib.Dec.{ltb}
+use lib.Dec.{eqb, ltb}
 use lib.IntN.{ℤ, pos, natAbs, _+ℤ_, +ℤ-assoc}
 use lib.ListN.{getD, take}
 use lib.Signed.{ltZ}
-use borrow.Author.Tests.{ltb-true, lt-ltb, eqb-true, eq-eqb, ne-eqb}
+use borrow.Author.Tests.{ltb-true, lt-ltb, eqb-true, eqb-false, eq-eqb, ne-eqb}
 use Rattle.refusal.specs.Outcome.{value, refused}
 use Rattle.numbers.specs.Floor.{floorRemainder}
-use Rattle.numbers.specs.Range.{outside, since}
+use Rattle.numbers.specs.Range.{outside, since, eqZ}
 use Rattle.refusal.proofs.Outcomes.{clash, passes, same-value}
 use Rattle.numbers.proofs.Integers.{outside-no, add-since, since-add, since-le, lt-add, add-injective}
 use Rattle.numbers.proofs.Between.{natural-within, inside-pos, inside-from}
@@ -30,7 +30,7 @@ use Rattle.calendar.proofs.Lengths.{bits-days}
 use Rattle.calendar.proofs.Order.{Precedes, in-year, in-month, in-day, precedes-less, trichotomy}
 use Rattle.calendar.proofs.Steps.{at, found, count-after, at-in-range}
 use Rattle.calendar.proofs.Tests.{valid-answer, accepted-valid, accepted-is}
-use Rattle.calendar.proofs.Weekdays.{weekday-le, weekday-add, weekday-after}
+use Rattle.calendar.proofs.Weekdays.{weekday-between, weekday-add, weekday-after, weekday-modulo}
 use Rattle.calendar.proofs.Dates.{natural, year-day, counted, count-inside, days-inside, added}
 
 -- counts and valid dates correspond one to one
@@ -188,15 +188,40 @@ pub day-zero-is-thursday : weekday (pos 0) ≡ pos 4
 unfolding weekday
 day-zero-is-thursday = refl
 
-pub weekday-is-in-range : (z : ℤ) → outside (pos 0) (pos 6) (weekday z) ≡ false
+pub weekday-is-in-range : (z : ℤ) → outside (pos 1) (pos 7) (weekday z) ≡ false
 unfolding weekday
-weekday-is-in-range z = inside-pos 0 6 (natAbs (weekday z)) (omega arith) (weekday-le z)
+weekday-is-in-range z = let b = weekday-between z in inside-pos 1 7 (natAbs (weekday z)) (b .0) (b .1)
 
-pub weekday-moves-by-one : (z : ℤ) → weekday (z +ℤ pos 1) ≡ weekdayAfter (weekday z) 1
-weekday-moves-by-one z = weekday-after z 1
+-- an answer that is one thing where two numbers are equal and another where they are not
+by-equality : {A : Type 0} → (a b : ℕ) (x y r : A) → (a ≡ b → r ≡ x) → ((a ≡ b → ⊥) → r ≡ y) → r ≡ cond (eqb a b) x y
+by-equality {A} a b x y r same other = go (eqb a b) refl
+  where
+    go : (t : Bool) → eqb a b ≡ t → r ≡ cond t x y
+    go true e = same (eqb-true a b e)
+    go false e = other (eqb-false a b e)
+
+-- the next day has the next number, and 1 after 7
+pub weekday-moves-by-one : (z : ℤ) → weekday (z +ℤ pos 1) ≡ cond (eqZ (weekday z) (pos 7)) (pos 1) (weekday z +ℤ pos 1)
+unfolding weekday
+weekday-moves-by-one z =
+    let b = weekday-between z in
+    weekday-after z 1 ∙ by-equality (natAbs (weekday z)) 7 _ _ _ (λ e. ap pos (omega (arith, e))) (λ e. ap pos (omega (arith, b .1, e)))
 
 pub weekday-moves-by : (z p : ℤ) → weekday (z +ℤ p) ≡ weekdayAfter (weekday z) (floorRemainder p 7)
 weekday-moves-by = weekday-add
+
+-- modulo 7 the number is document 01's, by which Sunday is 0 and Saturday 6
+pub weekday-modulo-seven : (z : ℤ) → floorRemainder (weekday z) 7 ≡ floorRemainder (z +ℤ pos 4) 7
+unfolding weekday
+weekday-modulo-seven = weekday-modulo
+
+-- so only Sunday's is another one
+pub only-sunday-changes : (z : ℤ) → let n = floorRemainder (z +ℤ pos 4) 7 in weekday z ≡ pos (cond (eqb n 0) 7 n)
+unfolding weekday
+only-sunday-changes z =
+    let b = weekday-between z in
+    let m = weekday-modulo-seven z in
+    ap pos (by-equality (floorRemainder (z +ℤ pos 4) 7) 0 _ _ _ (λ e. omega (arith, b .0, b .1, m, e)) (λ e. omega (arith, b .0, b .1, m, e)))
 
 -- the day of the year: 1 to 366 in a leap year, 1 to 365 in a common one
 year-length : (y : ℕ) → cond (leapYear (baseYear +ℤ pos y)) (pos 366) (pos 365) ≡ pos (365 + leapDay y)

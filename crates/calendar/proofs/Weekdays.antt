@@ -1,5 +1,5 @@
 -- Weekdays of sums.
-use Prim.Native.Nat.{ℕ, suc, _+_, _-_, _%_, _≤_}
+use Prim.Native.Nat.{ℕ, suc, _+_, _-_, _*_, _/_, _%_, _^_, _≤_, _<_}
 use mathlib.Core.Path.{_≡_, ap, sym, _∙_}
 use native.Mathlib.Omega.{arith}
 use lib.IntN.{ℤ, pos, negsuc, natAbs, _+ℤ_, +ℤ-assoc, +ℤ-comm}
@@ -26,14 +26,24 @@ shifted-add z p k =
     ap (λ z. floorRemainder z 7) (+ℤ-assoc z p (pos k) ∙ ap (λ x. z +ℤ x) (+ℤ-comm p (pos k)) ∙ sym (+ℤ-assoc z (pos k) p))
     ∙ remainder-add (z +ℤ pos k) p
 
-pub weekday-le : (z : ℤ) → natAbs (weekday z) ≤ 6
+pub weekday-between : (z : ℤ) → (1 ≤ natAbs (weekday z)) × (natAbs (weekday z) ≤ 7)
 unfolding weekday
-weekday-le z = remainder-le (z +ℤ pos 4)
+weekday-between z = (omega arith, omega (arith, remainder-le (z +ℤ pos 3)))
 
 pub weekday-add : (z p : ℤ) → weekday (z +ℤ p) ≡ weekdayAfter (weekday z) (floorRemainder p 7)
 unfolding weekday
-weekday-add z p = ap pos (shifted-add z p 4)
+weekday-add z p = ap pos (omega (arith, shifted-add z p 3))
 
 pub weekday-after : (z : ℤ) (n : ℕ) → weekday (z +ℤ pos n) ≡ weekdayAfter (weekday z) n
 unfolding weekday
 weekday-after z n = weekday-add z (pos n) ∙ ap pos (omega arith)
+
+pub weekday-modulo : (z : ℤ) → floorRemainder (weekday z) 7 ≡ floorRemainder (z +ℤ pos 4) 7
+unfolding weekday
+weekday-modulo z = sym (remainder-add (z +ℤ pos 3) (pos 1)) ∙ ap (λ z. floorRemainder z 7) (+ℤ-assoc z (pos 3) (pos 1))
+
+-- a week's days as sevenths of 2^32: the upper three of 32 bits have the day's number
+pub by-sevenths : (n : ℕ) → n < 2 ^ 27 → (n * 613566757 + 2 ^ 29) % 2 ^ 32 / 2 ^ 29 ≡ n % 7 + 1
+by-sevenths n h =
+    let e : (n * 613566757 + 2 ^ 29) % 2 ^ 32 ≡ 613566757 * (n % 7) + 3 * (n / 7) + 2 ^ 29 = omega (arith, h) in
+    omega (arith, h, e)

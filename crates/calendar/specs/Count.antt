@@ -27,13 +27,13 @@ daysUntil (suc most) e d = cond (sameDate e d) zero (suc (daysUntil most (nextDa
 unfoldable pub countOfDate : Date → ℤ
 countOfDate d = firstCount +ℤ pos (daysUntil (since firstCount lastCount) firstDate d)
 
--- the weekday of a count: 0 Sunday to 6 Saturday, and day 0 is Thursday, 4 (numbering of source document 002)
+-- the weekday of a count: 1 Monday to 7 Sunday (change request Four), and day 0 is Thursday, three days after a Monday
 unfoldable pub weekday : ℤ → ℤ
-weekday z = pos (floorRemainder (z +ℤ pos 4) 7)
+weekday z = pos (floorRemainder (z +ℤ pos 3) 7 + 1)
 
 -- the weekday n days after the weekday w
 abbrev pub weekdayAfter : (w : ℤ) (n : ℕ) → ℤ
-weekdayAfter w n = pos ((natAbs w + n) % 7)
+weekdayAfter w n = pos ((natAbs w - 1 + n) % 7 + 1)
 
 abbrev pub sum : List ℕ → ℕ
 sum [] = 0

@@ -1,5 +1,5 @@
 // Where the code counts from: years and days from one cycle of the calendar before the first year, so that nothing inside is below
-// zero, and weekdays from that of the first day.
+// zero, and weekdays from a Monday.
 
 use super::range::FIRST_COUNT;
 use super::range::FIRST_YEAR;
@@ -14,5 +14,5 @@ pub const BASE_YEAR: i64 = FIRST_YEAR - CYCLE_YEARS;
 // The count of the first day of BASE_YEAR.
 pub const BASE_COUNT: i64 = FIRST_COUNT - CYCLE as i64;
 
-// The weekday of the first day of the range: day 0 is Thursday, 4.
-pub const FIRST_WEEKDAY: u32 = ((FIRST_COUNT % 7 + 7 + 4) % 7) as u32;
+// The days from a Monday to the first day of the range: day 0 is Thursday, three days after a Monday.
+pub const DAYS_FROM_MONDAY: u32 = ((FIRST_COUNT % 7 + 7 + 3) % 7) as u32;

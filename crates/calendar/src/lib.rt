@@ -12,7 +12,7 @@
 
 use base::BASE_COUNT;
 use base::BASE_YEAR;
-use base::FIRST_WEEKDAY;
+use base::DAYS_FROM_MONDAY;
 use length_by_bits::month_length;
 use range::FIRST_COUNT;
 use range::FIRST_YEAR;
@@ -26,6 +26,7 @@ mod convert;
 mod length_by_bits;
 mod length_by_match;
 pub mod range;
+mod weekday;
 mod year;
 
 ghost use mathlib.Core.Path.{_≡_};
@@ -78,14 +79,14 @@ pub fn civil_from_days(days: i64) -> DateAnswer
     DateAnswer::Value(date_of_count(days))
 }
 
-// The weekday of a day count: 0 Sunday to 6 Saturday.
+// The weekday of a day count: 1 Monday to 7 Sunday.
 pub fn weekday_from_days(days: i64) -> NumberAnswer
     ensures { λ r. ⌜ numberOutcome r ≡ weekdayAnswer days ⌝ }
 {
     if numbers::outside(FIRST_COUNT, LAST_COUNT, days) {
         return NumberAnswer::Refused(Refusal::OutOfRange);
     }
-    NumberAnswer::Value(((FIRST_WEEKDAY + days_from_first(days)) % 7) as i64)
+    NumberAnswer::Value(weekday::after_monday(DAYS_FROM_MONDAY + days_from_first(days)) as i64)
 }
 
 // Whether a year is leap.

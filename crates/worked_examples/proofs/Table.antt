@@ -193,3 +193,9 @@ cue-row =
       blanks-behind = refl;
       second-is = refl;
     })
+
+-- ---- document 02, request Four: 2100-02-28 is a Sunday
+
+pub sunday-row : weekdayAnswer (pos 47540) ≡ value (pos 7)
+unfolding weekdayAnswer weekday
+sunday-row = refl

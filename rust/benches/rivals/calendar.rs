@@ -11,9 +11,8 @@ const FIRST_DAY: i64 = *DAYS.start();
 const LAST_DAY: i64 = *DAYS.end();
 /// From the first count of the computational calendar to 1970-01-01.
 const EPOCH: i64 = 719468 + 146097;
-/// The weekday of 1970-01-01, and a count that is whole weeks before the first day.
-const EPOCH_WEEKDAY: u32 = 4;
-const WEEKS_BEFORE: i64 = 7 * (FIRST_DAY / 7 - 1);
+/// A Monday before the first day: 1970-01-01 is three days after one.
+const MONDAY_BEFORE: i64 = 7 * (FIRST_DAY / 7 - 1) - 3;
 
 /// The two ways of a conversion: algorithms 3 and 4, or 5 and 6.
 pub const BY_DIVISIONS: bool = false;
@@ -142,7 +141,7 @@ pub unsafe extern "C" fn civil_from_days<const SHIFTS: bool>(days: i64, date: *m
 
 #[inline(never)]
 pub unsafe extern "C" fn weekday(days: i64) -> i64 {
-    returned(checked_count(days).map(|days| (((days - WEEKS_BEFORE) as u32 + EPOCH_WEEKDAY) % 7).into()))
+    returned(checked_count(days).map(|days| ((days - MONDAY_BEFORE) as u32 % 7 + 1).into()))
 }
 
 #[inline(never)]

@@ -1,4 +1,4 @@
-//! Document 01 and change requests One and Three in plain Rust, written from their text and sharing nothing with the library
+//! Document 01 and change requests One, Three and Four in plain Rust, written from their text and sharing nothing with the library
 //! but the types of dates, fields, cues and constants. The calendar is a table of every day, built by stepping from each day to the
 //! next; instants go by `div_euclid` and `rem_euclid`, labels by `write!`, the reader of instants byte by byte, timestamps
 //! and cue lines by splitting them at their marks and blanks, and the constants by trying every n.
@@ -15,9 +15,9 @@ pub const LAST_YEAR: i64 = 9999;
 pub const FIRST_DAY: i64 = -719528;
 pub const LAST_DAY: i64 = 2932896;
 
-/// The weekdays' numbers and names, each the day after the one before it.
+/// The weekdays' numbers, as change request Four has them, and names, each the day after the one before it.
 pub const WEEKDAYS: [(i64, &str); 7] =
-    [(0, "Sunday"), (1, "Monday"), (2, "Tuesday"), (3, "Wednesday"), (4, "Thursday"), (5, "Friday"), (6, "Saturday")];
+    [(1, "Monday"), (2, "Tuesday"), (3, "Wednesday"), (4, "Thursday"), (5, "Friday"), (6, "Saturday"), (7, "Sunday")];
 const FIRST_WEEKDAY: &str = "Saturday";
 const EPOCH_WEEKDAY: &str = "Thursday";
 
