@@ -60,6 +60,7 @@ fn heading() {
 const CHRONO: &str = "libstdc++ chrono";
 const RUST: &str = "plain Rust";
 const BY_HAND: &str = "hand-written Rust";
+const STEPS: &str = "Rust, the library's steps";
 
 /// As many numbers from a range as a line has inputs.
 fn numbers(random: &mut Random, range: std::ops::RangeInclusive<i64>) -> Vec<i64> {
@@ -162,6 +163,7 @@ fn calendar_lines() {
         raw::ovenquill_weekday,
         &[
             (RUST, calendar::weekday),
+            (STEPS, calendar::weekday_by_product),
             #[cfg(chrono)]
             (CHRONO, chrono::chrono_weekday),
         ],
@@ -307,7 +309,7 @@ fn label_lines() {
             &[
                 (BY_HAND, labels::read_instant::<BY_BYTES>),
                 ("Rust, eight bytes at a time", labels::read_instant::<BY_WORDS>),
-                ("Rust, the library's steps", labels::read_instant::<BY_CENTURY>),
+                (STEPS, labels::read_instant::<BY_CENTURY>),
             ],
         );
     }

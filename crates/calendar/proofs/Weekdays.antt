@@ -1,4 +1,4 @@
--- Weekdays of sums.
+-- Weekdays of sums, and by a product.
 use Prim.Native.Nat.{ℕ, suc, _+_, _-_, _*_, _/_, _%_, _^_, _≤_, _<_}
 use mathlib.Core.Path.{_≡_, ap, sym, _∙_}
 use native.Mathlib.Omega.{arith}
@@ -42,7 +42,7 @@ pub weekday-modulo : (z : ℤ) → floorRemainder (weekday z) 7 ≡ floorRemaind
 unfolding weekday
 weekday-modulo z = sym (remainder-add (z +ℤ pos 3) (pos 1)) ∙ ap (λ z. floorRemainder z 7) (+ℤ-assoc z (pos 3) (pos 1))
 
--- a week's days as sevenths of 2^32: the upper three of 32 bits have the day's number
+-- a day as a seventh of 2^32, rounded up: seven of them are 2^32 + 3
 pub by-sevenths : (n : ℕ) → n < 2 ^ 27 → (n * 613566757 + 2 ^ 29) % 2 ^ 32 / 2 ^ 29 ≡ n % 7 + 1
 by-sevenths n h =
     let e : (n * 613566757 + 2 ^ 29) % 2 ^ 32 ≡ 613566757 * (n % 7) + 3 * (n / 7) + 2 ^ 29 = omega (arith, h) in

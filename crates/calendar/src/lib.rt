@@ -2,7 +2,7 @@
 //
 //     days_from_civil(year, month, day)        day count       refusals 1, 2, 3
 //     civil_from_days(days)                    date            refusal 4
-//     weekday_from_days(days)                  weekday         refusal 4
+//     weekday_from_days(days)                  1 to 7          refusal 4
 //     is_leap(year)                            leap flag       refusal 1
 //     last_day_of_month(year, month)           month length    refusals 1, 2
 //     day_of_year(year, month, day)            1 to 366        refusals 1, 2, 3

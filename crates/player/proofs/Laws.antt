@@ -1,9 +1,9 @@
--- What each call returns is 0 or more exactly if the call is done: a refusal is below zero, and no value is.
+-- What each call returns is 0 or more exactly if the call is done: a refusal is below zero, and no value is. Of a weekday more is said.
 use Prim.Native.Nat.{ℕ}
 use mathlib.Core.Path.{_≡_, refl, ap}
 use mathlib.Core.Bool.{Bool, true, false, cond, not, _||_}
 use mathlib.Core.List.{List, _++_}
-use lib.IntN.{ℤ, pos, natAbs}
+use lib.IntN.{ℤ, pos, natAbs, negℤ}
 use lib.Dec.{eqb, ltb}
 use lib.ListN.{length}
 use lib.Signed.{nonNeg, ltZ}
@@ -16,7 +16,7 @@ use Rattle.calendar.specs.Gregorian.{leapYear, monthLength, dateOf, ValidDate}
 use Rattle.calendar.specs.Count.{weekday, dayOfYear}
 use Rattle.calendar.specs.Answers.{daysAnswer, civilAnswer, weekdayAnswer, leapAnswer, lastDayAnswer, dayOfYearAnswer, addDaysAnswer, ofDate}
 use Rattle.calendar.specs.declared.Date.{Date}
-use Rattle.calendar.proofs.Laws.{day-of-year-is-in-range}
+use Rattle.calendar.proofs.Laws.{weekday-is-in-range, day-of-year-is-in-range}
 use Rattle.instant.specs.Answers.{badInstant, badTime, firstBad, dayAnswer, splitAnswer, joinAnswer, indexDaysAnswer}
 use Rattle.labels.specs.Digits.{fits}
 use Rattle.labels.specs.Written.{bytesWritten}
@@ -69,6 +69,13 @@ civil-tells days = guarded returnedDone (outside firstCount lastCount days) _ _ 
 pub weekday-tells : (days : ℤ) → Tells returned (weekdayAnswer days)
 unfolding weekdayAnswer weekday
 weekday-tells days = guarded returned (outside firstCount lastCount days) _ _ (told refl) (told refl)
+
+-- 1 to 7, or the refusal negated
+pub weekday-returned :
+    (days : ℤ) → (outside firstCount lastCount days ≡ false → outside (pos 1) (pos 7) (returned (weekdayAnswer days)) ≡ false)
+    × (outside firstCount lastCount days ≡ true → returned (weekdayAnswer days) ≡ negℤ (pos 4))
+unfolding weekdayAnswer
+weekday-returned days = (λ h. rw h (weekday-is-in-range days), λ h. rw h refl)
 
 flag-tells : (flag : Bool) → Tells returnedFlag (value flag)
 flag-tells true = told refl

@@ -3,7 +3,7 @@
 //
 //     ovenquill_days_from_civil(year, month, day, days)                       0, and the day count
 //     ovenquill_civil_from_days(days, date)                                   0, and year, month, day
-//     ovenquill_weekday(days)                                                 the weekday
+//     ovenquill_weekday(days)                                                 1 Monday to 7 Sunday
 //     ovenquill_is_leap(year)                                                 1 leap, 0 not
 //     ovenquill_last_day_of_month(year, month)                                the month's length
 //     ovenquill_day_of_year(year, month, day)                                 1 to 366
