@@ -69,7 +69,7 @@ test-readme: $(LIB)
 # libstdc++'s calendar is one of the benchmarks' rivals where there is a C++ compiler; the tests compile the benchmarks too.
 build/chrono/libovenquill_chrono.a: rust/benches/chrono.cpp
 	mkdir -p build/chrono
-	$(CXX) -O3 -std=c++20 -c $< -o build/chrono/chrono.o
+	$(CXX) -O3 -std=c++20 -falign-functions=64 -c $< -o build/chrono/chrono.o
 	ar rcs $@ build/chrono/chrono.o
 
 ifneq ($(shell command -v $(CXX)),)
@@ -86,9 +86,18 @@ LENGTHS := build/lengths/libovenquill_lengths.a
 $(LENGTHS): $(LIB) tools/build_lengths
 	tools/build_lengths $(LIB) $@
 
+# In the benchmarks every function begins at a multiple of 64 bytes, so that neither side gains by its place.
+ALIGNED := build/aligned/libovenquill.a
+
+$(ALIGNED): $(LIB)
+	mkdir -p build/aligned
+	objcopy --set-section-alignment '.text*=64' $< $@
+
+bench: export OVENQUILL_LIB := $(CURDIR)/build/aligned
 bench: export OVENQUILL_LENGTHS := $(CURDIR)/build/lengths
-bench: $(LIB) $(CHRONO) $(LENGTHS)
-	cd rust && cargo bench --quiet
+bench: export RUSTFLAGS := -C llvm-args=-align-all-functions=6
+bench: $(ALIGNED) $(CHRONO) $(LENGTHS)
+	cd rust && cargo bench --quiet --target-dir ../build/bench
 
 install: $(LIB)
 	install -d '$(DESTDIR)$(PREFIX)/lib/pkgconfig' '$(DESTDIR)$(PREFIX)/include'

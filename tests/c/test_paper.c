@@ -241,5 +241,5 @@ int main(void)
     check_timestamps();
     check_cues();
     check_all_constants();
-    return finish("the numbers of document 01 and of change requests One and Three");
+    return finish("the numbers of document 01 and of change requests One, Three and Four");
 }
