@@ -93,11 +93,9 @@ $(ALIGNED): $(LIB)
 	mkdir -p build/aligned
 	objcopy --set-section-alignment '.text*=64' $< $@
 
-bench: export OVENQUILL_LIB := $(CURDIR)/build/aligned
-bench: export OVENQUILL_LENGTHS := $(CURDIR)/build/lengths
-bench: export RUSTFLAGS := -C llvm-args=-align-all-functions=6
 bench: $(ALIGNED) $(CHRONO) $(LENGTHS)
-	cd rust && cargo bench --quiet --target-dir ../build/bench
+	cd rust && OVENQUILL_LIB=../build/aligned OVENQUILL_LENGTHS=../build/lengths \
+	  RUSTFLAGS="$$RUSTFLAGS -C llvm-args=-align-all-functions=6" cargo bench --quiet --target-dir ../build/bench
 
 install: $(LIB)
 	install -d '$(DESTDIR)$(PREFIX)/lib/pkgconfig' '$(DESTDIR)$(PREFIX)/include'

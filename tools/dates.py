@@ -2,8 +2,8 @@
 """Prints the first and the last day of every month of the calendar, from Python's datetime.
 
 A line for each month; for each of the two days: year, month, day, the days from the first day of the first year, and the
-weekday as ISO 8601 numbers it. Shares nothing with the library: it is what the program `dates` is held to. A year that datetime does not have is moved
-by cycles of 400 years into those that it has; a cycle is 146097 days, which are whole weeks.
+weekday as ISO 8601 numbers it. Shares nothing with the library: it is what the program `dates` is held to. A year that
+datetime does not have is moved by cycles of 400 years into those that it has; a cycle is 146097 days, which are whole weeks.
 """
 from datetime import MAXYEAR, MINYEAR, date, timedelta
 

@@ -1,8 +1,10 @@
 // libstdc++'s calendar, with the signatures, the answers and the refusals of the C calls: a rival in benches/ratios.rs.
 //
-//     g++ -O3 -std=c++20 -c rust/benches/chrono.cpp -o build/chrono/chrono.o
+//     g++ -O3 -std=c++20 -falign-functions=64 -c rust/benches/chrono.cpp -o build/chrono/chrono.o
 //     ar rcs build/chrono/libovenquill_chrono.a build/chrono/chrono.o
 //     OVENQUILL_CHRONO=$PWD/build/chrono cargo bench      (in rust/)
+//
+// `make bench` does this, and has every other function begin at a multiple of 64 bytes too.
 
 #include <algorithm>
 #include <chrono>

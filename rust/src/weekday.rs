@@ -26,7 +26,8 @@ macro_rules! weekdays {
         }
 
         impl Weekday {
-            /// All seven, in the order of their numbers.
+            /// All seven, in the order of their numbers. These begin with 1, so a weekday's number is not its place here:
+            /// [`from_number`](Self::from_number) goes by the number.
             ///
             /// ```
             /// use ovenquill::Weekday;

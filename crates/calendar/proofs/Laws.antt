@@ -1,5 +1,5 @@
 -- The theorems of the calendar, over the definition by steps.
-use Prim.Native.Nat.{ℕ, _+_, _-_, _/_, _^_, _≤_, _<_}
+use Prim.Native.Nat.{ℕ, _+_, _-_, _/_, _%_, _^_, _≤_, _<_}
 use mathlib.Core.Path.{_≡_, refl, sym, ap, ap₂, _∙_, subst}
 use mathlib.Core.Logic.{_↔_}
 use mathlib.Core.Bool.{Bool, true, false, cond, not, _&&_}
@@ -21,7 +21,7 @@ use Rattle.numbers.proofs.Bools.{no-both}
 use Rattle.calendar.specs.declared.Date.{Date}
 use Rattle.calendar.specs.Range.{firstYear, lastYear, firstCount, lastCount}
 use Rattle.calendar.specs.Gregorian.{divides, leapYear, monthLengths, monthLength, daysBefore, dateOf, nextDay, dateAfter, ValidDate, Earlier, by-year, by-month, by-day}
-use Rattle.calendar.specs.Count.{dateOfCount, countOfDate, weekday, weekdayAfter, sum, dayOfYear}
+use Rattle.calendar.specs.Count.{dateOfCount, countOfDate, weekday, sum, dayOfYear}
 use Rattle.calendar.specs.Answers.{daysAnswer, civilAnswer, addDaysAnswer}
 use Rattle.calendar.specs.Closed.{fromYear, toYear, baseYear, cycle, lastDay, leapDay, leapℕ, leaps, start, monthDays, before, Valid, InRange, dayNumber, public}
 use Rattle.calendar.proofs.Leap.{leap-public}
@@ -30,7 +30,7 @@ use Rattle.calendar.proofs.Lengths.{bits-days}
 use Rattle.calendar.proofs.Order.{Precedes, in-year, in-month, in-day, precedes-less, trichotomy}
 use Rattle.calendar.proofs.Steps.{at, found, count-after, at-in-range}
 use Rattle.calendar.proofs.Tests.{valid-answer, accepted-valid, accepted-is}
-use Rattle.calendar.proofs.Weekdays.{weekday-between, weekday-add, weekday-after, weekday-modulo}
+use Rattle.calendar.proofs.Weekdays.{remainder-add, remainder-swap, weekday-between, weekday-after}
 use Rattle.calendar.proofs.Dates.{natural, year-day, counted, count-inside, days-inside, added}
 
 -- counts and valid dates correspond one to one
@@ -194,7 +194,7 @@ weekday-is-in-range z = let b = weekday-between z in inside-pos 1 7 (natAbs (wee
 
 -- an answer that is one thing where two numbers are equal and another where they are not
 by-equality : {A : Type 0} → (a b : ℕ) (x y r : A) → (a ≡ b → r ≡ x) → ((a ≡ b → ⊥) → r ≡ y) → r ≡ cond (eqb a b) x y
-by-equality {A} a b x y r same other = go (eqb a b) refl
+by-equality a b x y r same other = go (eqb a b) refl
   where
     go : (t : Bool) → eqb a b ≡ t → r ≡ cond t x y
     go true e = same (eqb-true a b e)
@@ -207,21 +207,28 @@ weekday-moves-by-one z =
     let b = weekday-between z in
     weekday-after z 1 ∙ by-equality (natAbs (weekday z)) 7 _ _ _ (λ e. ap pos (omega (arith, e))) (λ e. ap pos (omega (arith, b .1, e)))
 
-pub weekday-moves-by : (z p : ℤ) → weekday (z +ℤ p) ≡ weekdayAfter (weekday z) (floorRemainder p 7)
-weekday-moves-by = weekday-add
+-- document 01's number of the weekday, 0 Sunday to 6 Saturday, to say what change request Four kept of it
+abbrev pub documentNumber : ℤ → ℕ
+documentNumber z = floorRemainder (z +ℤ pos 4) 7
 
--- modulo 7 the number is document 01's, by which Sunday is 0 and Saturday 6
-pub weekday-modulo-seven : (z : ℤ) → floorRemainder (weekday z) 7 ≡ floorRemainder (z +ℤ pos 4) 7
+-- modulo 7 the number is what it was
+pub weekday-modulo-seven : (z : ℤ) → floorRemainder (weekday z) 7 ≡ documentNumber z
 unfolding weekday
-weekday-modulo-seven = weekday-modulo
+weekday-modulo-seven z = sym (remainder-add (z +ℤ pos 3) (pos 1)) ∙ ap (λ z. floorRemainder z 7) (+ℤ-assoc z (pos 3) (pos 1))
 
 -- so only Sunday's is another one
-pub only-sunday-changes : (z : ℤ) → let n = floorRemainder (z +ℤ pos 4) 7 in weekday z ≡ pos (cond (eqb n 0) 7 n)
+pub only-sunday-changes : (z : ℤ) → weekday z ≡ pos (cond (eqb (documentNumber z) 0) 7 (documentNumber z))
 unfolding weekday
 only-sunday-changes z =
     let b = weekday-between z in
     let m = weekday-modulo-seven z in
-    ap pos (by-equality (floorRemainder (z +ℤ pos 4) 7) 0 _ _ _ (λ e. omega (arith, b .0, b .1, m, e)) (λ e. omega (arith, b .0, b .1, m, e)))
+    ap pos (by-equality (documentNumber z) 0 _ _ _ (λ e. omega (arith, b .0, b .1, m, e)) (λ e. omega (arith, b .0, b .1, m, e)))
+
+-- a weekday moves by the shift modulo 7
+pub weekday-moves-by : (z p : ℤ) → floorRemainder (weekday (z +ℤ p)) 7 ≡ floorRemainder (weekday z +ℤ p) 7
+weekday-moves-by z p =
+    weekday-modulo-seven (z +ℤ p) ∙ remainder-swap z p (pos 4) ∙ ap (λ n. (n + floorRemainder p 7) % 7) (sym (weekday-modulo-seven z))
+    ∙ sym (remainder-add (weekday z) p)
 
 -- the day of the year: 1 to 366 in a leap year, 1 to 365 in a common one
 year-length : (y : ℕ) → cond (leapYear (baseYear +ℤ pos y)) (pos 366) (pos 365) ≡ pos (365 + leapDay y)

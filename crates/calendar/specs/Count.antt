@@ -1,6 +1,6 @@
 -- Day counts by steps: document 01, "The definition of the day count is by steps". The first date has the first count, and the
 -- next day has the next count; day 0 is 1970-01-01 (source document 002, the epoch shift).
-use Prim.Native.Nat.{ℕ, zero, suc, _+_, _-_, _%_}
+use Prim.Native.Nat.{ℕ, zero, suc, _+_, _-_}
 use mathlib.Core.Bool.{Bool, cond, _&&_}
 use mathlib.Core.List.{List, [], _∷_}
 use lib.IntN.{ℤ, pos, natAbs, _+ℤ_}
@@ -30,10 +30,6 @@ countOfDate d = firstCount +ℤ pos (daysUntil (since firstCount lastCount) firs
 -- the weekday of a count: 1 Monday to 7 Sunday (change request Four), and day 0 is Thursday, three days after a Monday
 unfoldable pub weekday : ℤ → ℤ
 weekday z = pos (floorRemainder (z +ℤ pos 3) 7 + 1)
-
--- the weekday n days after the weekday w
-abbrev pub weekdayAfter : (w : ℤ) (n : ℕ) → ℤ
-weekdayAfter w n = pos ((natAbs w - 1 + n) % 7 + 1)
 
 abbrev pub sum : List ℕ → ℕ
 sum [] = 0

@@ -14,5 +14,5 @@ pub const BASE_YEAR: i64 = FIRST_YEAR - CYCLE_YEARS;
 // The count of the first day of BASE_YEAR.
 pub const BASE_COUNT: i64 = FIRST_COUNT - CYCLE as i64;
 
-// The days from a Monday to the first day of the range: day 0 is Thursday, three days after a Monday.
-pub const DAYS_FROM_MONDAY: u32 = ((FIRST_COUNT % 7 + 7 + 3) % 7) as u32;
+// So many days, 0 to 6, the first day of the range comes after a Monday: day 0 is a Thursday, three days after one.
+pub const FIRST_AFTER_MONDAY: u32 = ((FIRST_COUNT % 7 + 7 + 3) % 7) as u32;

@@ -12,7 +12,7 @@
 
 use base::BASE_COUNT;
 use base::BASE_YEAR;
-use base::DAYS_FROM_MONDAY;
+use base::FIRST_AFTER_MONDAY;
 use length_by_bits::month_length;
 use range::FIRST_COUNT;
 use range::FIRST_YEAR;
@@ -86,7 +86,7 @@ pub fn weekday_from_days(days: i64) -> NumberAnswer
     if numbers::outside(FIRST_COUNT, LAST_COUNT, days) {
         return NumberAnswer::Refused(Refusal::OutOfRange);
     }
-    NumberAnswer::Value(weekday::after_monday(DAYS_FROM_MONDAY + days_from_first(days)) as i64)
+    NumberAnswer::Value(weekday::after_monday(FIRST_AFTER_MONDAY + days_from_first(days)) as i64)
 }
 
 // Whether a year is leap.

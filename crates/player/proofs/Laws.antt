@@ -1,4 +1,4 @@
--- What each call returns is 0 or more exactly if the call is done: a refusal is below zero, and no value is. Of a weekday more is said.
+-- What each call returns is 0 or more exactly if the call is done: a refusal is below zero, and no value is. A weekday is 1 to 7.
 use Prim.Native.Nat.{ℕ}
 use mathlib.Core.Path.{_≡_, refl, ap}
 use mathlib.Core.Bool.{Bool, true, false, cond, not, _||_}
@@ -70,7 +70,7 @@ pub weekday-tells : (days : ℤ) → Tells returned (weekdayAnswer days)
 unfolding weekdayAnswer weekday
 weekday-tells days = guarded returned (outside firstCount lastCount days) _ _ (told refl) (told refl)
 
--- 1 to 7, or the refusal negated
+-- 1 to 7 for a count in the range, else refusal 4 negated
 pub weekday-returned :
     (days : ℤ) → (outside firstCount lastCount days ≡ false → outside (pos 1) (pos 7) (returned (weekdayAnswer days)) ≡ false)
     × (outside firstCount lastCount days ≡ true → returned (weekdayAnswer days) ≡ negℤ (pos 4))

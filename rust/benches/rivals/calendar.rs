@@ -144,7 +144,7 @@ pub unsafe extern "C" fn weekday(days: i64) -> i64 {
     returned(checked_count(days).map(|days| ((days - MONDAY_BEFORE) as u32 % 7 + 1).into()))
 }
 
-/// By a product in place of the remainder, as the library has it: a day is a seventh of 2^32, and the upper three bits are its number.
+/// By a product in place of the remainder, as the library has it: a day is a seventh of 2^32.
 #[inline(never)]
 pub unsafe extern "C" fn weekday_by_product(days: i64) -> i64 {
     const SEVENTH: u32 = ((1 << 32) / 7_u64 + 1) as u32;

@@ -1,12 +1,14 @@
 use Rattle.numbers.specs.Range.{since}
 use Rattle.calendar.proofs.Weekdays.{weekday-after}
 use Rattle.calendar.specs.Answers.{weekdayAnswer}
-use Rattle.calendar.specs.Count.{weekday, weekdayAfter}
+use Rattle.calendar.specs.Count.{weekday}
 use Rattle.calendar.specs.Range.{firstCount, lastCount}
 use Rattle.numbers.proofs.Machine.{answered}
 use Rattle.numbers.proofs.Integers.{add-since, outside-no}
 use Rattle.refusal.specs.Outcome.{value}
-use lib.IntN.{pos}
+use Prim.Native.Nat.{_+_, _%_}
+use lib.IntN.{pos, _+ℤ_}
+use Rattle.numbers.specs.Floor.{floorRemainder}
 use mir.Facts.{toZ-ofZ, toZ-pos}
 use mir.Syntax.{w64}
 use native.Mathlib.Omega.{arith}
@@ -39,8 +41,11 @@ unfolding weekdayAnswer weekday
 returns-2 c = let s = c .before .before .before .before in
     let h = answered firstCount lastCount (s .fits .days) (c .before .before .before .outside .ensures) (c .before .before .if1 .left) in
     let e = add-since firstCount (s .args .days) (outside-no firstCount lastCount (s .args .days) h .0) in
+    let n = c .before .days-from-first .ensures .0 ∙ ap (since firstCount) (toZ-ofZ (s .fits .days)) in
     rw h
-    (ap value (toZ-pos w64 (omega (arith, c .after-monday .ensures)) ∙ ap pos (c .after-monday .ensures) ∙ ap (weekdayAfter (weekday firstCount)) (c .before .days-from-first .ensures .0 ∙ ap (since firstCount) (toZ-ofZ (s .fits .days)))
+    (ap value
+    (toZ-pos w64 (omega (arith, c .after-monday .ensures)) ∙ ap pos (c .after-monday .ensures)
+    ∙ ap (λ n. pos ((floorRemainder (firstCount +ℤ pos 3) 7 + n) % 7 + 1)) n
     ∙ sym (weekday-after firstCount (since firstCount (s .args .days))) ∙ ap weekday e))
 
 pub weekday-from-days-spec : {M : Type 1} → statement M
