@@ -86,7 +86,7 @@ LENGTHS := build/lengths/libovenquill_lengths.a
 $(LENGTHS): $(LIB) tools/build_lengths
 	tools/build_lengths $(LIB) $@
 
-# In the benchmarks every function begins at a multiple of 64 bytes, so that neither side gains by its place.
+# In the benchmarks every function begins at a multiple of 64 bytes, so that none gains by where in 64 bytes it begins.
 ALIGNED := build/aligned/libovenquill.a
 
 $(ALIGNED): $(LIB)

@@ -13,7 +13,7 @@ mod rivals;
 
 use measure::call::{
     CueReader, Eight, EightTo, FourTo, Index, One, OneTo, PositionReader, Reader, SevenTo, Text, Three, ThreeTo, Two,
-    Writer, MOST_BLANKS,
+    Waiting, Writer, MOST_BLANKS,
 };
 use measure::{best_times, line, percentile, shown, Inputs, PARTS, ROUNDS};
 use ovenquill::{
@@ -167,6 +167,17 @@ fn calendar_lines() {
             (STEPS, calendar::weekday_by_product),
             #[cfg(chrono)]
             (CHRONO, chrono::chrono_weekday),
+        ],
+    );
+    line(
+        "weekday, each call waiting for the one before",
+        &Inputs::of(&counts),
+        Waiting(raw::ovenquill_weekday),
+        &[
+            (RUST, Waiting(calendar::weekday)),
+            (STEPS, Waiting(calendar::weekday_by_product)),
+            #[cfg(chrono)]
+            (CHRONO, Waiting(chrono::chrono_weekday)),
         ],
     );
     line::<One>(

@@ -39,7 +39,7 @@ macro_rules! weekdays {
             /// ```
             pub const ALL: [Weekday; 7] = [$(Weekday::$name),+];
 
-            /// The weekday that has a number.
+            /// The weekday that has a number, 1 Monday to 7 Sunday; none has another number, as 0.
             ///
             /// ```
             /// use ovenquill::Weekday;

@@ -2,9 +2,9 @@
  * Prints what the program `worked_examples` must print: its rows, each answered by the plain reference. Nothing here calls the
  * library. Compiled as C and as C++. The expected output is made by
  *
- *     cc -O2 tests/c/worked_examples.c tests/c/plain_*.c -o rows && ./rows > crates/worked_examples/stdout
+ *     cc -O2 tests/c/worked_examples.c tests/c/plain_*.c -o build/rows && build/rows > crates/worked_examples/stdout
  *
- * in some 25 seconds: three searches try every n up to 4294967295.
+ * in some 25 seconds: three searches try every n below 4294967295.
  */
 #include <inttypes.h>
 #include <stdio.h>

@@ -127,6 +127,31 @@ calls_of_numbers! {
     Eight, EightTo: a b c d e f g h;
 }
 
+/// A call of one number that waits for the answer to the one before.
+#[derive(Clone, Copy)]
+pub struct Waiting(pub One);
+
+impl Call for Waiting {
+    type Input = [i64; 1];
+    /// What is added to the next number: the upper half of the last answer, which is 0 where answers are small.
+    type Lent = i64;
+
+    fn cleared(_: &Self::Input) -> i64 {
+        0
+    }
+
+    fn call(self, &[a]: &Self::Input, lent: &mut i64) -> i64 {
+        // SAFETY: the call takes any number.
+        let answer = unsafe { self.0(a + *lent) };
+        *lent = answer >> 32;
+        answer
+    }
+
+    fn sum(_: &i64) -> i64 {
+        0
+    }
+}
+
 pub type Writer = unsafe extern "C" fn(i64, *mut u8, usize) -> i64;
 
 /// Buffers for labels, none across two cache lines. Each call writes to the next, so that no store waits for the last one.
