@@ -207,16 +207,16 @@ weekday-moves-by-one z =
     let b = weekday-between z in
     weekday-after z 1 ∙ by-equality (natAbs (weekday z)) 7 _ _ _ (λ e. ap pos (omega (arith, e))) (λ e. ap pos (omega (arith, b .1, e)))
 
--- document 01's number of the weekday, 0 Sunday to 6 Saturday, to say what change request Four kept of it
+-- document 01's number of the weekday, 0 Sunday to 6 Saturday, for the two theorems below
 abbrev pub documentNumber : ℤ → ℕ
 documentNumber z = floorRemainder (z +ℤ pos 4) 7
 
--- modulo 7 the number is what it was
+-- modulo 7 the two numbers are the same
 pub weekday-modulo-seven : (z : ℤ) → floorRemainder (weekday z) 7 ≡ documentNumber z
 unfolding weekday
 weekday-modulo-seven z = sym (remainder-add (z +ℤ pos 3) (pos 1)) ∙ ap (λ z. floorRemainder z 7) (+ℤ-assoc z (pos 3) (pos 1))
 
--- so only Sunday's is another one
+-- so they differ on Sundays only
 pub only-sunday-changes : (z : ℤ) → weekday z ≡ pos (cond (eqb (documentNumber z) 0) 7 (documentNumber z))
 unfolding weekday
 only-sunday-changes z =

@@ -1,5 +1,5 @@
--- Remainders by 7 and weekdays of sums.
-use Prim.Native.Nat.{ℕ, suc, _+_, _-_, _%_, _≤_}
+-- Remainders by 7, weekdays of sums, and weekdays by a product.
+use Prim.Native.Nat.{ℕ, suc, _+_, _-_, _*_, _/_, _%_, _^_, _≤_, _<_}
 use mathlib.Core.Path.{_≡_, ap, sym, _∙_}
 use native.Mathlib.Omega.{arith}
 use lib.IntN.{ℤ, pos, negsuc, natAbs, _+ℤ_, +ℤ-assoc, +ℤ-comm}
@@ -32,3 +32,16 @@ weekday-between z = (omega arith, omega (arith, remainder-le (z +ℤ pos 3)))
 pub weekday-after : (z : ℤ) (n : ℕ) → weekday (z +ℤ pos n) ≡ pos ((floorRemainder (z +ℤ pos 3) 7 + n) % 7 + 1)
 unfolding weekday
 weekday-after z n = ap pos (omega (arith, remainder-swap z (pos n) (pos 3)))
+
+-- a weekday by a product: s is a seventh of 2^32, rounded up, and what is added is an eighth of it or a little more
+pub by-sevenths :
+    (n s a : ℕ) → n < 2 ^ 27 → 7 * s ≡ 2 ^ 32 + 3 → 2 ^ 29 ≤ a → a ≤ 556044870 → (n * s + a) % 2 ^ 32 / 2 ^ 29 ≡ n % 7 + 1
+by-sevenths n s a h seven low high =
+    let seventh : s ≡ 613566757 = omega (arith, seven) in
+    rw seventh (ap (λ x. x / 2 ^ 29) lower ∙ eighths (n % 7) (n / 7) (omega arith) (omega (arith, h)))
+  where
+    lower : (n * 613566757 + a) % 2 ^ 32 ≡ 613566757 * (n % 7) + 3 * (n / 7) + a
+    lower = omega (arith, h, high)
+
+    eighths : (r q : ℕ) → r ≤ 6 → q ≤ 19173961 → (613566757 * r + 3 * q + a) / 2 ^ 29 ≡ r + 1
+    eighths r q k l = omega (arith, k, l, low, high)

@@ -6,9 +6,7 @@ use Rattle.calendar.specs.Range.{firstCount, lastCount}
 use Rattle.numbers.proofs.Machine.{answered}
 use Rattle.numbers.proofs.Integers.{add-since, outside-no}
 use Rattle.refusal.specs.Outcome.{value}
-use Prim.Native.Nat.{_+_, _%_}
-use lib.IntN.{pos, _+ℤ_}
-use Rattle.numbers.specs.Floor.{floorRemainder}
+use lib.IntN.{pos}
 use mir.Facts.{toZ-ofZ, toZ-pos}
 use mir.Syntax.{w64}
 use native.Mathlib.Omega.{arith}
@@ -44,8 +42,7 @@ returns-2 c = let s = c .before .before .before .before in
     let n = c .before .days-from-first .ensures .0 ∙ ap (since firstCount) (toZ-ofZ (s .fits .days)) in
     rw h
     (ap value
-    (toZ-pos w64 (omega (arith, c .after-monday .ensures)) ∙ ap pos (c .after-monday .ensures)
-    ∙ ap (λ n. pos ((floorRemainder (firstCount +ℤ pos 3) 7 + n) % 7 + 1)) n
+    (toZ-pos w64 (omega (arith, c .after-monday .ensures)) ∙ ap pos (c .after-monday .ensures ∙ omega (arith, n))
     ∙ sym (weekday-after firstCount (since firstCount (s .args .days))) ∙ ap weekday e))
 
 pub weekday-from-days-spec : {M : Type 1} → statement M
