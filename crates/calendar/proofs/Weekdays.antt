@@ -33,7 +33,7 @@ pub weekday-after : (z : ℤ) (n : ℕ) → weekday (z +ℤ pos n) ≡ pos ((flo
 unfolding weekday
 weekday-after z n = ap pos (omega (arith, remainder-swap z (pos n) (pos 3)))
 
--- a weekday by a product: s is a seventh of 2^32, rounded up, and what is added is an eighth of it or a little more
+-- a weekday by a product: s is a seventh of 2^32, rounded up; a is an eighth of it, or more as far as a Sunday's sum stays below 2^32
 pub by-sevenths :
     (n s a : ℕ) → n < 2 ^ 27 → 7 * s ≡ 2 ^ 32 + 3 → 2 ^ 29 ≤ a → a ≤ 556044870 → (n * s + a) % 2 ^ 32 / 2 ^ 29 ≡ n % 7 + 1
 by-sevenths n s a h seven low high =

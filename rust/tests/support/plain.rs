@@ -48,13 +48,13 @@ pub const LAST_BOUND: i64 = 4294967294;
 
 // The calendar
 
-/// A day as the table has it; the weekday is a place in the list of weekdays.
+/// A day as the table has it; `in_week` is the place of its weekday in the list of weekdays.
 #[derive(Clone, Copy)]
 struct Day {
     year: i16,
     month: u8,
     day: u8,
-    weekday: u8,
+    in_week: u8,
     day_of_year: u16,
 }
 
@@ -76,30 +76,30 @@ fn length(year: i64, month: i64) -> i64 {
 
 /// The day after.
 fn next(today: Day) -> Day {
-    let weekday = (today.weekday + 1) % 7;
+    let in_week = (today.in_week + 1) % 7;
     if i64::from(today.day) < length(today.year.into(), today.month.into()) {
-        Day { day: today.day + 1, weekday, day_of_year: today.day_of_year + 1, ..today }
+        Day { day: today.day + 1, in_week, day_of_year: today.day_of_year + 1, ..today }
     } else if today.month < 12 {
-        Day { month: today.month + 1, day: 1, weekday, day_of_year: today.day_of_year + 1, ..today }
+        Day { month: today.month + 1, day: 1, in_week, day_of_year: today.day_of_year + 1, ..today }
     } else {
-        Day { year: today.year + 1, month: 1, day: 1, weekday, day_of_year: 1 }
+        Day { year: today.year + 1, month: 1, day: 1, in_week, day_of_year: 1 }
     }
 }
 
 fn calendar() -> &'static Calendar {
     static CALENDAR: OnceLock<Calendar> = OnceLock::new();
     CALENDAR.get_or_init(|| {
-        let weekday = WEEKDAYS.iter().position(|weekday| weekday.1 == FIRST_WEEKDAY).expect("one of the seven") as u8;
+        let in_week = WEEKDAYS.iter().position(|weekday| weekday.1 == FIRST_WEEKDAY).expect("one of the seven") as u8;
         let mut days = Vec::new();
         let mut months = Vec::new();
-        let mut today = Day { year: FIRST_YEAR as i16, month: 1, day: 1, weekday, day_of_year: 1 };
+        let mut today = Day { year: FIRST_YEAR as i16, month: 1, day: 1, in_week, day_of_year: 1 };
         for count in FIRST_DAY..=LAST_DAY {
             if today.day == 1 {
                 months.push(count);
             }
             if count == 0 {
                 assert_eq!((today.year, today.month, today.day), (1970, 1, 1));
-                assert_eq!(WEEKDAYS[usize::from(today.weekday)].1, EPOCH_WEEKDAY);
+                assert_eq!(WEEKDAYS[usize::from(today.in_week)].1, EPOCH_WEEKDAY);
             }
             days.push(today);
             today = next(today);
@@ -147,7 +147,7 @@ pub fn civil_from_days(days: i64) -> Answer<Date> {
 
 /// The weekday's number and name.
 pub fn weekday(days: i64) -> Answer<(i64, &'static str)> {
-    day_in_range(days).map_or(Refused(4), |day| Value(WEEKDAYS[usize::from(day.weekday)]))
+    day_in_range(days).map_or(Refused(4), |day| Value(WEEKDAYS[usize::from(day.in_week)]))
 }
 
 pub fn is_leap(year: i64) -> Answer<bool> {
