@@ -1,7 +1,7 @@
 // The numbered refusals of document 01, "The numbered refusals", those that document 02 adds, and the answer of a number or a refusal
 // that the crates share.
 //
-//     number(refusal)        its number, 1 to 13
+//     number(refusal)        its number, 1 to 14
 
 ghost use mathlib.Core.Path.{_≡_};
 ghost use Rattle.refusal.specs.Numbers.{refusalNumber};
@@ -33,6 +33,8 @@ pub enum Refusal {
     UnequalLengths,
     // 13: timestamp or cue line of a wrong shape, or a cue's end not later than its start
     MalformedTiming,
+    // 14: value of the transport clock outside 0..2^33 - 1, or its position outside 0..2^53
+    ClockOutOfRange,
 }
 
 pub enum NumberAnswer {
@@ -40,7 +42,7 @@ pub enum NumberAnswer {
     Refused(Refusal),
 }
 
-// The number of a refusal, 1 to 13.
+// The number of a refusal, 1 to 14.
 pub fn number(refusal: Refusal) -> u64
     ensures { λ r. ⌜ r ≡ refusalNumber refusal ⌝ }
 {
@@ -58,5 +60,6 @@ pub fn number(refusal: Refusal) -> u64
         Refusal::NoDifferenceUpToBound => 11,
         Refusal::UnequalLengths => 12,
         Refusal::MalformedTiming => 13,
+        Refusal::ClockOutOfRange => 14,
     }
 }

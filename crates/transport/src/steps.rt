@@ -1,0 +1,91 @@
+// The clock's limits, and the way from a position to the next one, as natural numbers.
+
+use super::Batch;
+use super::Clock;
+ghost use Prim.Native.Nat.{_+_, _≤_, _<_, _%_, _^_};
+ghost use mathlib.Core.Path.{_≡_};
+ghost use mathlib.Core.Bool.{not};
+ghost use lib.IntN.{pos, _-ℤ_};
+ghost use lib.ListN.{length};
+ghost use Rattle.numbers.specs.Range.{outside};
+ghost use Rattle.transport.specs.Wraps.{wrap, half, lastPosition, leadTo};
+ghost use Rattle.transport.specs.Batches.{goingOn, FirstTaken};
+ghost use Rattle.transport.specs.declared.Clock.the-variants.{At};
+
+// The values that the clock has, and half of them.
+pub const WRAP: u64 = 1 << 33;
+
+pub const HALF: u64 = 1 << 32;
+
+pub const LAST_VALUE: i64 = 8589934591;
+
+pub const LAST_POSITION: i64 = 9007199254740992;
+
+// HALF more than the last position.
+const LAST_AHEAD: u64 = 9007203549708288;
+
+// The position that a value leads to, and HALF more; `last` is what the clock had there.
+pub fn ahead(position: u64, last: u64, value: u64) -> u64
+    requires { ⌜ (position ≤ 2 ^ 53) × ((last ≡ position % wrap) × (value < wrap)) ⌝ }
+    ensures { λ r. ⌜ r ≡ position + leadTo (pos position) (pos value) ⌝ }
+{
+    position + (value + (WRAP + HALF) - last) % WRAP
+}
+
+// Whether that position lies in the range.
+pub fn lands(ahead: u64) -> bool
+    ensures { λ r. ⌜ r ≡ not (outside (pos 0) lastPosition (pos ahead -ℤ pos half)) ⌝ }
+{
+    if ahead < HALF {
+        return false;
+    }
+    if ahead > LAST_AHEAD {
+        return false;
+    }
+    true
+}
+
+// The place of the first value that is taken where nothing has been heard, or the length where there is none.
+pub fn first_taken(values: &[i64]) -> usize
+    ensures { λ r. ⌜ FirstTaken (now (values .entry)) r ⌝ }
+{
+    let mut place = 0;
+    while place < values.len() {
+        if !numbers::outside(0, LAST_VALUE, values[place]) {
+            return place;
+        }
+        place += 1;
+    }
+    place
+}
+
+// The batch from a position on. The last value is kept beside the position, so that a step need not wait for the one before it.
+pub fn run(position: u64, values: &[i64], start: usize, skipped: usize) -> Batch
+    requires { ⌜ (position ≤ 2 ^ 53) × ((start ≤ length (now values)) × (skipped ≤ start)) ⌝ }
+    ensures { λ r. ⌜ r ≡ goingOn (At (pos position)) skipped start (now (values .entry)) ⌝ }
+{
+    let mut at = position;
+    let mut last = at % WRAP;
+    let mut skipped = skipped;
+    let mut i = start;
+    while i < values.len() {
+        let heard = values[i];
+        if numbers::outside(0, LAST_VALUE, heard) {
+            skipped += 1;
+        } else {
+            let value = heard as u64;
+            let ahead = ahead(at, last, value);
+            if lands(ahead) {
+                at = ahead - HALF;
+                last = value;
+            } else {
+                skipped += 1;
+            }
+        }
+        i += 1;
+    }
+    Batch {
+        clock: Clock::At(at as i64),
+        skipped: skipped,
+    }
+}
