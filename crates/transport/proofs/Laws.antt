@@ -1,0 +1,178 @@
+-- The laws of the follower: its answers by the step, the true positions given back, refused values, batches, milliseconds.
+use Prim.Native.Nat.{ℕ, _+_, _≤_}
+use mathlib.Core.Path.{_≡_, refl, sym, ap, ap₂, _∙_}
+use mathlib.Core.Bool.{Bool, true, false, cond}
+use mathlib.Core.List.{List, [], _∷_, _++_, map, foldl, foldl-append}
+use native.Mathlib.Nat.{mod-eq-of-lt}
+use native.Mathlib.Omega.{arith}
+use lib.Dec.{lit<}
+use lib.IntN.{ℤ, pos, natAbs, _+ℤ_, _-ℤ_}
+use lib.ListN.{length}
+use lib.Signed.{ltZ}
+use Rattle.refusal.specs.Outcome.{Outcome, value, refused, refusedAt, afterCall}
+use Rattle.refusal.proofs.Outcomes.{passes, same-value}
+use Rattle.numbers.specs.Floor.{floorRemainder}
+use Rattle.numbers.specs.Range.{outside}
+use Rattle.numbers.proofs.Between.{inside-pos, natural-within}
+use Rattle.numbers.proofs.Bools.{or-no}
+use Rattle.numbers.proofs.Floor.{remainder-below}
+use Rattle.numbers.proofs.Integers.{add-difference}
+use Rattle.numbers.proofs.Quotients.{quotient-monotone}
+use Rattle.transport.specs.Wraps.{wrap, lastValue, lastPosition, Step, reached, positionAt}
+use Rattle.transport.specs.Answers.{badClock, notFollowed, followAnswer, clockAfter, ifRefused, soFar, oneMore, followAllAnswer}
+use Rattle.transport.specs.Runs.{answersTo, Onward, RunFrom, done, more, shownAt}
+use Rattle.transport.specs.declared.Batch.{Batch}
+use Rattle.transport.specs.declared.Clock.{Clock}
+use Rattle.transport.specs.declared.Clock.the-variants.{Nothing, At}
+use Rattle.transport.specs.declared.Position.{Position}
+use Rattle.transport.proofs.OneStep.{step-is-one}
+use Rattle.transport.proofs.Answered.{accepted-is, some-value, first-value}
+
+-- ---- one value
+
+-- where a position in the range and a value of the clock are handed in, any step that fits is the one that is taken
+pub by-any-step :
+    (position heard s : ℤ) → outside (pos 0) lastPosition position ≡ false → outside (pos 0) lastValue heard ≡ false → Step position heard s →
+    followAnswer (At position) heard ≡ cond (outside (pos 0) lastPosition (position +ℤ s)) (refused 14) (value (positionAt (position +ℤ s)))
+unfolding followAnswer
+by-any-step position heard s h k w =
+    let e : reached (At position) heard ≡ position +ℤ s = ap (λ s. position +ℤ s) (sym (step-is-one position heard s w)) in
+    ap₂ (λ t z. cond t (refused 14) (value (positionAt z))) (some-value (At position) heard k h ∙ ap (outside (pos 0) lastPosition) e) e
+
+-- an accepted value answers its position and both its numbers, and the clock goes on from there
+pub goes-on-from : (clock : Clock) (heard : ℤ) (p : Position) → followAnswer clock heard ≡ value p → clockAfter clock heard ≡ At (p .ticks)
+unfolding clockAfter
+goes-on-from clock heard p e = ap (λ o. afterCall o (λ p. At (p .ticks)) clock) e
+
+-- a refused value, whatever the clock: the clock is kept
+pub refused-keeps : (clock : Clock) (heard : ℤ) (number : ℕ) → followAnswer clock heard ≡ refused number → clockAfter clock heard ≡ clock
+unfolding clockAfter
+refused-keeps clock heard number e = ap (λ o. afterCall o (λ p. At (p .ticks)) clock) e
+
+-- an accepted position lies in the range, and its milliseconds are those of its ticks
+pub accepted-in-range :
+    (clock : Clock) (heard : ℤ) (p : Position) → followAnswer clock heard ≡ value p →
+    (p ≡ positionAt (p .ticks)) × (outside (pos 0) lastPosition (p .ticks) ≡ false)
+unfolding followAnswer
+accepted-in-range clock heard p e =
+    let t = passes (notFollowed clock heard) 14 (value (positionAt (reached clock heard))) (sym e) in
+    let same = same-value (t .1) in
+    let ticks = ap (λ p. p .ticks) same in
+    let behind = or-no (outside (pos 0) lastValue heard) _ (t .0) .1 in
+    let inside = or-no (badClock clock) (outside (pos 0) lastPosition (reached clock heard)) behind .1 in
+    (same ∙ ap positionAt (sym ticks), ap (outside (pos 0) lastPosition) ticks ∙ inside)
+
+-- the milliseconds never fall where the positions do not
+pub milliseconds-never-fall : (a b : ℤ) → ltZ b a ≡ false → ltZ (positionAt b .milliseconds) (positionAt a .milliseconds) ≡ false
+milliseconds-never-fall a b h = quotient-monotone a b 90 (lit< tt) h
+
+-- ---- tracking
+
+-- the clock at a position shows a value of its own, which leaves what the position leaves
+shown-inside : (position : ℤ) → outside (pos 0) lastValue (shownAt position) ≡ false
+shown-inside position =
+    let l = remainder-below position wrap (lit< tt) in
+    inside-pos 0 _ (floorRemainder position wrap) (omega arith) (omega arith)
+
+shown-fits : (position next : ℤ) → floorRemainder (position +ℤ (next -ℤ position)) wrap ≡ floorRemainder (shownAt next) wrap
+shown-fits position next =
+    ap (λ z. floorRemainder z wrap) (add-difference position next) ∙ sym (mod-eq-of-lt (remainder-below next wrap (lit< tt)))
+
+step-onward : (position next : ℤ) → Onward position next → Step position (shownAt next) (next -ℤ position)
+step-onward position next o = record { low = o .low; high = o .high; fits = shown-fits position next }
+
+-- one step of a run
+onward :
+    (position next : ℤ) → outside (pos 0) lastPosition position ≡ false → Onward position next →
+    followAnswer (At position) (shownAt next) ≡ value (positionAt next)
+onward position next h o =
+    let there = add-difference position next in
+    by-any-step position (shownAt next) (next -ℤ position) h (shown-inside next) (step-onward position next o)
+    ∙ ap₂ (λ t z. cond t (refused 14) (value (positionAt z))) (ap (outside (pos 0) lastPosition) there ∙ o .stays) there
+
+tracks-from :
+    {position : ℤ} {rest : List ℤ} → outside (pos 0) lastPosition position ≡ false → RunFrom position rest →
+    answersTo (At position) (map shownAt rest) ≡ map (λ p. value (positionAt p)) rest
+unfolding answersTo
+tracks-from h done = refl
+tracks-from {position} h (more {next = next} {rest = rest} o r) =
+    let e = onward position next h o in
+    ap₂ (λ a c. a ∷ answersTo c (map shownAt rest)) e (goes-on-from (At position) (shownAt next) (positionAt next) e)
+    ∙ ap (λ l. value (positionAt next) ∷ l) (tracks-from (o .stays) r)
+
+-- a follower that has heard nothing, fed the true positions modulo 2^33, gives them back
+pub tracking :
+    (first : ℤ) (rest : List ℤ) → outside (pos 0) lastValue first ≡ false → RunFrom first rest →
+    answersTo Nothing (map shownAt (first ∷ rest)) ≡ map (λ p. value (positionAt p)) (first ∷ rest)
+unfolding answersTo
+tracking first rest h r =
+    let w = natural-within 0 lastValue first h in
+    let small = w .high in
+    let same : shownAt first ≡ first = ap shownAt (w .is) ∙ ap pos (mod-eq-of-lt (omega arith)) ∙ sym (w .is) in
+    let inside = ap (outside (pos 0) lastPosition) (w .is) ∙ inside-pos 0 _ (natAbs first) (omega arith) (omega arith) in
+    let e = accepted-is Nothing first (first-value first h) in
+    ap₂ (λ a c. a ∷ answersTo c (map shownAt rest)) (ap (followAnswer Nothing) same ∙ e .0) (ap (clockAfter Nothing) same ∙ e .1)
+    ∙ ap (λ l. value (positionAt first) ∷ l) (tracks-from inside r)
+
+-- ---- refused values and batches
+
+-- a refused value changes nothing of what follows
+pub refused-changes-nothing :
+    (clock : Clock) (heard : ℤ) (number : ℕ) (values : List ℤ) → followAnswer clock heard ≡ refused number →
+    answersTo clock (heard ∷ values) ≡ refused number ∷ answersTo clock values
+unfolding answersTo
+refused-changes-nothing clock heard number values e = ap₂ (λ a c. a ∷ answersTo c values) e (refused-keeps clock heard number e)
+
+-- the batch is the fold of the single call
+pub batch-is-the-fold : (clock : Clock) (values : List ℤ) → followAllAnswer clock values ≡ foldl oneMore (soFar clock 0) values
+unfolding followAllAnswer
+batch-is-the-fold clock values = refl
+
+-- what was passed over before a value is only added to
+counts : (clock : Clock) (n : ℕ) (values : List ℤ) → let b = foldl oneMore (soFar clock 0) values in foldl oneMore (soFar clock n) values ≡ soFar (b .clock) (n + b .skipped)
+counts clock n [] = ap (soFar clock) (omega arith)
+counts clock n (heard ∷ values) =
+    let c = clockAfter clock heard in
+    let k = ifRefused (followAnswer clock heard) in
+    let i = counts c (n + k) values in
+    let j = counts c (0 + k) values in
+    i ∙ ap₂ soFar (sym (ap (λ b. b .clock) j)) (omega (arith, ap (λ b. b .skipped) j))
+
+-- a batch split anywhere: the second part goes on from the first one's clock, and the counts are added
+pub split-anywhere :
+    (clock : Clock) (front back : List ℤ) → let first = followAllAnswer clock front in
+    let second = followAllAnswer (first .clock) back in
+    followAllAnswer clock (front ++ back) ≡ soFar (second .clock) (first .skipped + second .skipped)
+unfolding followAllAnswer
+split-anywhere clock front back =
+    let first = foldl oneMore (soFar clock 0) front in
+    foldl-append oneMore (soFar clock 0) front back ∙ counts (first .clock) (first .skipped) back
+
+-- a refused value in a batch: the batch without it, and one more passed over
+pub refused-in-a-batch :
+    (clock : Clock) (front back : List ℤ) (heard : ℤ) (number : ℕ) → followAnswer (followAllAnswer clock front .clock) heard ≡ refused number →
+    let without = followAllAnswer clock (front ++ back) in
+    followAllAnswer clock (front ++ heard ∷ back) ≡ soFar (without .clock) (without .skipped + 1)
+unfolding followAllAnswer
+refused-in-a-batch clock front back heard number e =
+    let first = foldl oneMore (soFar clock 0) front in
+    let here : oneMore first heard ≡ soFar (first .clock) (first .skipped + 1) =
+    ap₂ (λ c a. soFar c (first .skipped + ifRefused a)) (refused-keeps (first .clock) heard number e) e in
+    let with-it =
+    foldl-append oneMore (soFar clock 0) front (heard ∷ back) ∙ ap (λ b. foldl oneMore b back) here
+    ∙ counts (first .clock) (first .skipped + 1) back in
+    let without-it = foldl-append oneMore (soFar clock 0) front back ∙ counts (first .clock) (first .skipped) back in
+    with-it ∙ ap₂ soFar (sym (ap (λ b. b .clock) without-it)) (omega (arith, ap (λ b. b .skipped) without-it))
+
+-- no more than the values are passed over
+at-most-one : (answer : Outcome Position) → ifRefused answer ≤ 1
+at-most-one (value p) = omega arith
+at-most-one (refused number) = omega arith
+at-most-one (refusedAt number place) = omega arith
+
+pub skipped-at-most : (clock : Clock) (values : List ℤ) → followAllAnswer clock values .skipped ≤ length values
+unfolding followAllAnswer
+skipped-at-most clock [] = omega arith
+skipped-at-most clock (heard ∷ values) =
+    let k = counts (clockAfter clock heard) (0 + ifRefused (followAnswer clock heard)) values in
+    omega (arith, ap (λ b. b .skipped) k, at-most-one (followAnswer clock heard), skipped-at-most (clockAfter clock heard) values)
