@@ -41,11 +41,16 @@ flag-read true = refl
 flag-read false = refl
 
 module _ {A : Type 0} {outcome answer : Outcome A} (same : outcome ≡ answer) where
-  -- the value goes to a place
+  -- the value goes to a place, and something is returned of it
+  pub returned-and-placed :
+      (f : Outcome A → ℤ) {B : Type 0} (written : A → B) (before : B) {r : ℤ} {after : B} → (r ≡ f outcome) × (after ≡ afterCall outcome written before) →
+      (r ≡ f answer) × (after ≡ afterCall answer written before)
+  returned-and-placed f written before e = (e .0 ∙ ap f same, e .1 ∙ ap (λ o. afterCall o written before) same)
+
   pub placed :
       {B : Type 0} (written : A → B) (before : B) {r : ℤ} {after : B} → (r ≡ returnedDone outcome) × (after ≡ afterCall outcome written before) →
       (r ≡ returnedDone answer) × (after ≡ afterCall answer written before)
-  placed written before e = (e .0 ∙ ap returnedDone same, e .1 ∙ ap (λ o. afterCall o written before) same)
+  placed = returned-and-placed returnedDone
 
   -- what a refusal hands back goes to a place
   pub refusal-placed :

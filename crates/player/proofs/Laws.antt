@@ -1,13 +1,15 @@
--- What each call returns is 0 or more exactly if the call is done: a refusal is below zero, and no value is. A weekday is 1 to 7.
+-- What each call returns is 0 or more exactly if the call is done: a refusal is below zero, and no value is. A weekday is 1 to 7. The
+-- two numbers of a transport clock stand for the clock.
 use Prim.Native.Nat.{ℕ}
-use mathlib.Core.Path.{_≡_, refl, ap}
+use mathlib.Core.Path.{_≡_, refl, sym, ap, _∙_}
 use mathlib.Core.Bool.{Bool, true, false, cond, not, _||_}
-use mathlib.Core.List.{List, _++_}
+use mathlib.Core.List.{List, [], _∷_, _++_}
 use lib.IntN.{ℤ, pos, natAbs, negℤ}
 use lib.Dec.{eqb, ltb}
 use lib.ListN.{length}
 use lib.Signed.{nonNeg, ltZ}
-use Rattle.refusal.specs.Outcome.{Outcome, value, refused, refusedAt, andThen, mapValue}
+use borrow.Author.Tests.{eq-eqb}
+use Rattle.refusal.specs.Outcome.{Outcome, value, refused, refusedAt, andThen, mapValue, afterCall}
 use Rattle.numbers.specs.Range.{outside}
 use Rattle.numbers.proofs.Between.{natural-within}
 use Rattle.numbers.proofs.Bools.{or-no}
@@ -30,7 +32,16 @@ use Rattle.labels.specs.declared.webvtt.Cue.{Cue}
 use Rattle.constants.specs.Least.{Found, at, none, leastBelow}
 use Rattle.constants.specs.Limits.{lastEnd, outsideLimits, endOutside, boundOutside}
 use Rattle.constants.specs.Answers.{difference, differenceAnswer, claimed, boundAnswer}
-use Rattle.player.specs.Returned.{returned, returnedCount, returnedFlag, returnedDone, returnedFound, done, Tells}
+use Rattle.transport.specs.Wraps.{lastValue, reached, millisecondsOf}
+use Rattle.transport.specs.Wraps as T
+use Rattle.transport.specs.Answers.{badClock, notFollowed, followAnswer, clockAfter, followAllAnswer}
+use Rattle.transport.specs.declared.Clock.{Clock}
+use Rattle.transport.specs.declared.Clock.the-variants.{At}
+use Rattle.transport.specs.declared.Position.{Position}
+use Rattle.transport.proofs.Laws.{first-and-rest}
+use Rattle.player.specs.Returned.{returned, returnedCount, returnedFlag, returnedDone, returnedFound, returnedMilliseconds, clockOf, clockAfterValue, clockAfterValues, done, Tells}
+use Rattle.player.specs.ClockPlaces.{heardAt}
+use Rattle.player.proofs.ClockPlace.{batch-place}
 
 -- what is told on either side of a test
 by-test :
@@ -205,3 +216,38 @@ unfolding boundAnswer
 bound-tells a b d m c k t bound =
     guarded returnedDone (outsideLimits a b d m c k t || boundOutside bound) _ _ (told refl)
     (claimed-tells (leastBelow (difference a b d m c k t) (natAbs bound)) (difference a b d m c k t (natAbs bound)))
+
+-- ---- the transport clock
+
+pub follow-tells : (clock : Clock) (heard : ℤ) → Tells returnedMilliseconds (followAnswer clock heard)
+unfolding followAnswer
+follow-tells clock heard =
+    by-test returnedMilliseconds (notFollowed clock heard) _ _ (λ _. told refl) (λ h.
+    let behind = or-no (outside (pos 0) lastValue heard) _ h .1 in
+    let inside = or-no (badClock clock) (outside (pos 0) T.lastPosition (reached clock heard)) behind .1 in
+    told (ap (λ z. nonNeg (millisecondsOf z)) (natural-within 0 T.lastPosition (reached clock heard) inside .is)))
+
+-- the two numbers stand for the clock, after a value and after a list of them
+pub numbers-follow : (numbers : List ℤ) (heard : ℤ) → clockOf (clockAfterValue numbers heard) ≡ clockAfter (clockOf numbers) heard
+unfolding clockAfterValue clockAfter
+numbers-follow numbers heard = go (followAnswer (clockOf numbers) heard)
+  where
+    go :
+        (answer : Outcome Position) → clockOf (afterCall answer (λ p. pos 1 ∷ p .ticks ∷ []) numbers)
+        ≡ afterCall answer (λ p. At (p .ticks)) (clockOf numbers)
+    go (value p) = refl
+    go (refused number) = refl
+    go (refusedAt number place) = refl
+
+pub numbers-follow-all : (numbers values : List ℤ) → clockOf (clockAfterValues numbers values) ≡ followAllAnswer (clockOf numbers) values .clock
+unfolding clockAfterValues followAllAnswer
+numbers-follow-all numbers [] = refl
+numbers-follow-all numbers (heard ∷ values) =
+    numbers-follow-all (clockAfterValue numbers heard) values ∙ ap (λ clock. followAllAnswer clock values .clock) (numbers-follow numbers heard)
+    ∙ sym (ap (λ b. b .clock) (first-and-rest (clockOf numbers) heard values))
+
+-- where no value is accepted neither number changes
+pub none-accepted :
+    (numbers values : List ℤ) → followAllAnswer (clockOf numbers) values .skipped ≡ length values → clockAfterValues numbers values ≡ numbers
+none-accepted numbers values e =
+    sym (batch-place numbers values) ∙ ap (λ t. cond t numbers (heardAt (followAllAnswer (clockOf numbers) values .clock) numbers)) (eq-eqb _ _ e)

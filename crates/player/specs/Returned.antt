@@ -5,14 +5,20 @@
 use Prim.Native.Nat.{ℕ}
 use mathlib.Core.Path.{_≡_}
 use mathlib.Core.Bool.{Bool, true, false, cond}
-use mathlib.Core.List.{List, [], _∷_}
+use mathlib.Core.List.{List, [], _∷_, foldl}
 use lib.IntN.{ℤ, pos, negℤ}
+use lib.ListN.{getD}
 use lib.Signed.{nonNeg}
-use Rattle.refusal.specs.Outcome.{Outcome, value, refused, refusedAt, mapValue}
+use Rattle.refusal.specs.Outcome.{Outcome, value, refused, refusedAt, mapValue, afterCall}
+use Rattle.numbers.specs.Range.{eqZ}
 use Rattle.calendar.specs.declared.Date.{Date}
 use Rattle.instant.specs.declared.Fields.{Fields}
 use Rattle.labels.specs.declared.webvtt.Cue.{Cue}
 use Rattle.constants.specs.Least.{Found, at, none}
+use Rattle.transport.specs.Answers.{followAnswer}
+use Rattle.transport.specs.declared.Clock.{Clock}
+use Rattle.transport.specs.declared.Clock.the-variants.{Nothing, At}
+use Rattle.transport.specs.declared.Position.{Position}
 
 -- the value, or the refusal's number negated
 abbrev pub returned : Outcome ℤ → ℤ
@@ -49,6 +55,26 @@ fieldsNumbers f = f .year ∷ f .month ∷ f .day ∷ f .hour ∷ f .minute ∷ 
 
 abbrev pub cueNumbers : Cue → List ℤ
 cueNumbers c = c .start ∷ c .end ∷ []
+
+-- a transport clock is two numbers, `heard` and `position`: nothing has been heard where `heard` is 0, and `position` is then not
+-- looked at
+abbrev pub clockFrom : (heard position : ℤ) → Clock
+clockFrom heard position = cond (eqZ heard (pos 0)) Nothing (At position)
+
+abbrev pub clockOf : (numbers : List ℤ) → Clock
+clockOf numbers = clockFrom (getD numbers 0 (pos 0)) (getD numbers 1 (pos 0))
+
+-- what they are after a value: 1 and the position of an accepted one, and else what they were
+unfoldable pub clockAfterValue : (numbers : List ℤ) (heard : ℤ) → List ℤ
+clockAfterValue numbers heard = afterCall (followAnswer (clockOf numbers) heard) (λ p. pos 1 ∷ p .ticks ∷ []) numbers
+
+-- after a list of values, one behind the other
+unfoldable pub clockAfterValues : (numbers values : List ℤ) → List ℤ
+clockAfterValues numbers values = foldl clockAfterValue numbers values
+
+-- an accepted value's milliseconds
+abbrev pub returnedMilliseconds : Outcome Position → ℤ
+returnedMilliseconds answer = returned (mapValue (λ p. p .milliseconds) answer)
 
 -- what the place for a refusal's own place or least n holds after a call: what the refusal hands back, and in every other case what
 -- it held before

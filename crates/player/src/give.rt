@@ -155,7 +155,7 @@ pub fn claim(answer: ClaimAnswer, least: &mut i64) -> i64
 }
 
 // A refusal's number, below zero.
-fn negated(why: Refusal) -> i64
+pub fn negated(why: Refusal) -> i64
     ensures { λ n. ⌜ n ≡ negℤ (pos (refusalNumber why)) ⌝ }
 {
     0 - (refusal::number(why) as i64)

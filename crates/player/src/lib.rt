@@ -19,6 +19,8 @@
 //     ovenquill_read_cue(line, cue)                                           0, and start and end
 //     ovenquill_first_difference(a, b, d, m, c, k, t, end)                    the least n, or `end`
 //     ovenquill_check_bound(a, b, d, m, c, k, t, bound, least)                0 accepted; a refusal 10 puts the least n in `least`
+//     ovenquill_follow(clock, value)                                          the milliseconds, and the clock goes on from there
+//     ovenquill_follow_all(clock, values)                                     how many were passed over, and the clock behind the last
 
 ghost use mathlib.Core.Path.{_≡_};
 ghost use Rattle.refusal.specs.Outcome.{afterCall};
@@ -30,8 +32,11 @@ ghost use Rattle.labels.specs.Webvtt.{positionLabel};
 ghost use Rattle.labels.specs.Timestamps.{positionAnswer};
 ghost use Rattle.labels.specs.Cues.{cueLineAnswer};
 ghost use Rattle.constants.specs.Answers.{differenceAnswer, boundAnswer};
-ghost use Rattle.player.specs.Returned.{returned, returnedCount, returnedFlag, returnedDone, returnedFound, dateNumbers, fieldsNumbers, cueNumbers, afterRefusal};
+ghost use Rattle.transport.specs.Answers.{followAnswer, followAllAnswer};
+ghost use lib.IntN.{pos};
+ghost use Rattle.player.specs.Returned.{returned, returnedCount, returnedFlag, returnedDone, returnedFound, returnedMilliseconds, dateNumbers, fieldsNumbers, cueNumbers, clockOf, clockAfterValue, clockAfterValues, afterRefusal};
 
+mod clocks;
 mod give;
 
 #[no_mangle]
@@ -208,4 +213,23 @@ pub extern "C" fn ovenquill_check_bound(
     ensures least { λ r. ⌜ now (least .exit) ≡ afterRefusal (boundAnswer a b d m c k t bound) (now (least .entry)) ⌝ }
 {
     give::claim(constants::check_bound(a, b, d, m, c, k, t, bound), least)
+}
+
+#[no_mangle]
+pub extern "C" fn ovenquill_follow(clock: &mut [i64; 2], value: i64) -> i64
+    ensures answer { λ r. ⌜ r ≡ returnedMilliseconds (followAnswer (clockOf (now (clock .entry))) value) ⌝ }
+    ensures clock { λ r. ⌜ now (clock .exit) ≡ clockAfterValue (now (clock .entry)) value ⌝ }
+{
+    let followed = transport::follow(clocks::from_numbers(clock[0], clock[1]), value);
+    let answer = followed.answer;
+    clocks::followed(answer, clock)
+}
+
+#[no_mangle]
+pub extern "C" fn ovenquill_follow_all(clock: &mut [i64; 2], values: &[i64]) -> i64
+    ensures answer { λ r. ⌜ r ≡ pos (followAllAnswer (clockOf (now (clock .entry))) (now (values .entry)) .skipped) ⌝ }
+    ensures clock { λ r. ⌜ now (clock .exit) ≡ clockAfterValues (now (clock .entry)) (now (values .entry)) ⌝ }
+{
+    let batch = transport::follow_all(clocks::from_numbers(clock[0], clock[1]), values);
+    clocks::followed_all(batch, values.len(), clock)
 }

@@ -138,6 +138,15 @@ counts clock n (heard ∷ values) =
     let j = counts c (0 + k) values in
     i ∙ ap₂ soFar (sym (ap (λ b. b .clock) j)) (omega (arith, ap (λ b. b .skipped) j))
 
+-- a batch from its first value on
+pub first-and-rest :
+    (clock : Clock) (heard : ℤ) (values : List ℤ) → let rest = followAllAnswer (clockAfter clock heard) values in
+    followAllAnswer clock (heard ∷ values) ≡ soFar (rest .clock) (ifRefused (followAnswer clock heard) + rest .skipped)
+unfolding followAllAnswer
+first-and-rest clock heard values =
+    let c = clockAfter clock heard in
+    counts c (0 + ifRefused (followAnswer clock heard)) values ∙ ap (soFar (foldl oneMore (soFar c 0) values .clock)) (omega arith)
+
 -- a batch split anywhere: the second part goes on from the first one's clock, and the counts are added
 pub split-anywhere :
     (clock : Clock) (front back : List ℤ) → let first = followAllAnswer clock front in
@@ -174,5 +183,47 @@ pub skipped-at-most : (clock : Clock) (values : List ℤ) → followAllAnswer cl
 unfolding followAllAnswer
 skipped-at-most clock [] = omega arith
 skipped-at-most clock (heard ∷ values) =
-    let k = counts (clockAfter clock heard) (0 + ifRefused (followAnswer clock heard)) values in
-    omega (arith, ap (λ b. b .skipped) k, at-most-one (followAnswer clock heard), skipped-at-most (clockAfter clock heard) values)
+    let e = ap (λ b. b .skipped) (first-and-rest clock heard values) in
+    omega (arith, e, at-most-one (followAnswer clock heard), skipped-at-most (clockAfter clock heard) values)
+
+-- where they all are, the clock is kept
+kept-if : (clock : Clock) (heard : ℤ) → ifRefused (followAnswer clock heard) ≡ 1 → clockAfter clock heard ≡ clock
+unfolding clockAfter
+kept-if clock heard = go (followAnswer clock heard)
+  where
+    go : (answer : Outcome Position) → ifRefused answer ≡ 1 → afterCall answer (λ p. At (p .ticks)) clock ≡ clock
+    go (value p) e = absurd (omega arith)
+    go (refused number) e = refl
+    go (refusedAt number place) e = refl
+
+pub all-passed-over :
+    (clock : Clock) (values : List ℤ) → followAllAnswer clock values .skipped ≡ length values → followAllAnswer clock values .clock ≡ clock
+unfolding followAllAnswer
+all-passed-over clock [] e = refl
+all-passed-over clock (heard ∷ values) e =
+    let r = first-and-rest clock heard values in
+    let next = clockAfter clock heard in
+    let n = sym (ap (λ b. b .skipped) r) ∙ e in
+    let l = skipped-at-most next values in
+    let h = at-most-one (followAnswer clock heard) in
+    let m : followAllAnswer next values .skipped ≡ length values = omega (arith, n, l, h) in
+    let k : ifRefused (followAnswer clock heard) ≡ 1 = omega (arith, n, l, h) in
+    ap (λ b. b .clock) r ∙ all-passed-over next values m ∙ kept-if clock heard k
+
+-- and a clock that has heard something stays so
+heard-after : (position heard : ℤ) → (last : ℤ) × (clockAfter (At position) heard ≡ At last)
+unfolding clockAfter
+heard-after position heard = go (followAnswer (At position) heard)
+  where
+    go : (answer : Outcome Position) → (last : ℤ) × (afterCall answer (λ p. At (p .ticks)) (At position) ≡ At last)
+    go (value p) = (p .ticks, refl)
+    go (refused number) = (position, refl)
+    go (refusedAt number place) = (position, refl)
+
+pub stays-heard : (position : ℤ) (values : List ℤ) → (last : ℤ) × (followAllAnswer (At position) values .clock ≡ At last)
+unfolding followAllAnswer
+stays-heard position [] = (position, refl)
+stays-heard position (heard ∷ values) =
+    let a = heard-after position heard in
+    let s = stays-heard (a .0) values in
+    (s .0, ap (λ b. b .clock) (first-and-rest (At position) heard values) ∙ ap (λ c. followAllAnswer c values .clock) (a .1) ∙ s .1)
