@@ -102,7 +102,7 @@ install: $(LIB)
 	install -m 644 $(LIB) '$(DESTDIR)$(PREFIX)/lib/'
 	install -m 644 include/ovenquill.h '$(DESTDIR)$(PREFIX)/include/'
 	printf '%s\n' 'prefix=$(PREFIX)' '' 'Name: ovenquill' \
-	  'Description: The Gregorian calendar, labels of instants and positions, cue lines, and a checker of constants, proved right' \
+	  'Description: The Gregorian calendar, labels of instants and positions, cue lines, a checker of constants, and a follower of the transport clock, proved right' \
 	  'Version: $(VERSION)' 'Libs: -L$${prefix}/lib -lovenquill' 'Cflags: -I$${prefix}/include' \
 	  > '$(DESTDIR)$(PREFIX)/lib/pkgconfig/ovenquill.pc'
 

@@ -1,6 +1,6 @@
 /*
- * Ovenquill: the proleptic Gregorian calendar, labels of instants and of positions (WebVTT timestamps), cue lines, and a
- * checker of multiply-and-shift constants, proved right.
+ * Ovenquill: the proleptic Gregorian calendar, labels of instants and of positions (WebVTT timestamps), cue lines, a checker
+ * of multiply-and-shift constants, and a follower of the 33-bit transport clock, proved right.
  *
  * For C99, C++11 and later ones. Link with libovenquill.a; after `make install`, `pkg-config --cflags --libs ovenquill` says
  * how.
@@ -22,7 +22,7 @@
  *   - What is pointed to is valid for the whole call and aligned for its type.
  *   - Nobody changes what is pointed to during the call; what is not const nobody reads either.
  *   - What is not const overlaps nothing else that is lent to the same call. What it holds before the call makes no
- *     difference to the answer.
+ *     difference to the answer, but for a transport clock, which is read: any two numbers will do.
  */
 #ifndef OVENQUILL_H
 #define OVENQUILL_H
@@ -36,7 +36,7 @@ extern "C" {
 
 /* The version of this header, in numbers and as a string. */
 #define OVENQUILL_VERSION_MAJOR 0
-#define OVENQUILL_VERSION_MINOR 4
+#define OVENQUILL_VERSION_MINOR 5
 #define OVENQUILL_VERSION_PATCH 0
 #define OVENQUILL_VERSION OVENQUILL_DOTTED_(OVENQUILL_VERSION_MAJOR, OVENQUILL_VERSION_MINOR, OVENQUILL_VERSION_PATCH)
 #define OVENQUILL_DOTTED_(major, minor, patch) OVENQUILL_STRING_(major.minor.patch)
@@ -85,6 +85,17 @@ extern "C" {
 #define OVENQUILL_LAST_POSITION_ 359999999999
 #define OVENQUILL_FIRST_POSITION OVENQUILL_NUMBER_(OVENQUILL_FIRST_POSITION_)
 #define OVENQUILL_LAST_POSITION OVENQUILL_NUMBER_(OVENQUILL_LAST_POSITION_)
+
+/* The transport clock: its values, which 33 bits hold, and its unwrapped positions, both in ticks. */
+#define OVENQUILL_FIRST_CLOCK_VALUE_ 0
+#define OVENQUILL_LAST_CLOCK_VALUE_ 8589934591
+#define OVENQUILL_FIRST_CLOCK_POSITION_ 0
+#define OVENQUILL_LAST_CLOCK_POSITION_ 9007199254740992
+#define OVENQUILL_FIRST_CLOCK_VALUE OVENQUILL_NUMBER_(OVENQUILL_FIRST_CLOCK_VALUE_)
+#define OVENQUILL_LAST_CLOCK_VALUE OVENQUILL_NUMBER_(OVENQUILL_LAST_CLOCK_VALUE_)
+#define OVENQUILL_FIRST_CLOCK_POSITION OVENQUILL_NUMBER_(OVENQUILL_FIRST_CLOCK_POSITION_)
+#define OVENQUILL_LAST_CLOCK_POSITION OVENQUILL_NUMBER_(OVENQUILL_LAST_CLOCK_POSITION_)
+#define OVENQUILL_TICKS_PER_MILLISECOND INT64_C(90)
 
 /* The constants that are checked, the end of a search and the bound of a claim. */
 #define OVENQUILL_A_MIN INT64_C(1)
@@ -140,6 +151,7 @@ extern "C" {
 #define OVENQUILL_NO_DIFFERENCE_UP_TO_BOUND (-11)
 #define OVENQUILL_UNEQUAL_LENGTHS (-12)
 #define OVENQUILL_MALFORMED_TIMING (-13)
+#define OVENQUILL_CLOCK_OUT_OF_RANGE (-14)
 
 /* A refusal in words, by what a call answered. Any number may be handed in; the text is never null and is not to be freed. */
 static inline const char *ovenquill_refusal_text(int64_t answer)
@@ -175,6 +187,10 @@ static inline const char *ovenquill_refusal_text(int64_t answer)
         return "index lists of unequal length";
     case OVENQUILL_MALFORMED_TIMING:
         return "timestamp or cue line of a wrong shape, or a cue's end not later than its start";
+    case OVENQUILL_CLOCK_OUT_OF_RANGE:
+        return "clock value outside " OVENQUILL_RANGE_TEXT_(OVENQUILL_FIRST_CLOCK_VALUE_, OVENQUILL_LAST_CLOCK_VALUE_)
+               ", or position handed in or reached outside "
+               OVENQUILL_RANGE_TEXT_(OVENQUILL_FIRST_CLOCK_POSITION_, OVENQUILL_LAST_CLOCK_POSITION_);
     default:
         return answer < 0 ? "unknown refusal" : "not refused";
     }
@@ -206,6 +222,18 @@ typedef struct ovenquill_cue {
     int64_t start;
     int64_t end;
 } ovenquill_cue;
+
+/*
+ * A transport clock that is followed. `heard` is 0 where nothing has been heard yet, and any other number where something has;
+ * an accepted value sets it to 1. `position` is the unwrapped position in ticks, and is not looked at while `heard` is 0. The
+ * start, with nothing heard: ovenquill_clock clock = OVENQUILL_CLOCK_START;
+ */
+typedef struct ovenquill_clock {
+    int64_t heard;
+    int64_t position;
+} ovenquill_clock;
+
+#define OVENQUILL_CLOCK_START {0, 0}
 
 /* The calendar: Gregorian, run backwards without a break; year 0 is leap. */
 
@@ -410,6 +438,44 @@ int64_t ovenquill_first_difference(int64_t a, int64_t b, int64_t d, int64_t m, i
  */
 int64_t ovenquill_check_bound(int64_t a, int64_t b, int64_t d, int64_t m, int64_t c, int64_t k, int64_t t, int64_t bound,
                               int64_t *least);
+
+/*
+ * The clock of a transport stream counts 90,000 ticks in a second and is carried in 33 bits, as the base of a program clock
+ * reference (PCR) and as the time stamps of pictures and sound (PTS, DTS): after 26 h 30 min 43.7 s it begins again at 0. A
+ * follower counts on, forwards and backwards and past any number of wraps:
+ *
+ *     ovenquill_clock clock = OVENQUILL_CLOCK_START;
+ *     ovenquill_follow(&clock, 8589934500)    answers 95443716; clock.position is 8589934500, the first value as it is
+ *     ovenquill_follow(&clock, 2910)          answers 95443750; clock.position is 8589937502, behind the wrap
+ *     ovenquill_follow(&clock, 8589934590)    answers 95443717; clock.position is 8589934590, a picture sent out of order
+ *     ovenquill_follow(&clock, 8589934592)    answers OVENQUILL_CLOCK_OUT_OF_RANGE; the clock is unchanged
+ *
+ * From one accepted value to the next goes the one step s with -2^32 <= s < 2^32 that leads to the new value modulo 2^33: the
+ * shorter way round, and backwards where both are as long. So a stream may jump by less than 13 h 15 min 21.8 s either way; a
+ * longer jump is taken for the shorter one the other way.
+ *
+ * A follower that is restarted knows nothing of earlier wraps: it takes its first value as it is, and its positions are then
+ * those of the old follower less a whole number of wraps. To go on after a restart, keep both numbers and hand them in again.
+ */
+
+/*
+ * Follows one value. Answers the milliseconds of its position: ticks divided by OVENQUILL_TICKS_PER_MILLISECOND, rounded down.
+ * `clock` is then at that position, with `heard` 1.
+ *
+ * Refusal, after which `clock` is unchanged, so that the next value is read as if this one had not come:
+ *   OVENQUILL_CLOCK_OUT_OF_RANGE   value outside OVENQUILL_FIRST_CLOCK_VALUE to OVENQUILL_LAST_CLOCK_VALUE, or the position
+ *                                  handed in (not while `heard` is 0) or the position reached outside
+ *                                  OVENQUILL_FIRST_CLOCK_POSITION to OVENQUILL_LAST_CLOCK_POSITION
+ */
+int64_t ovenquill_follow(ovenquill_clock *clock, int64_t value);
+
+/*
+ * Follows a list of values in order, each as ovenquill_follow does, and passes over those that it refuses. Answers how many it
+ * passed over; it is never refused. `clock` is then where the last accepted value led to, with `heard` 1, and is unchanged where
+ * none was accepted, as with a position handed in that is out of its range. A list may be split into batches anywhere: the
+ * clock behind the last is the same, and the answers add up.
+ */
+int64_t ovenquill_follow_all(ovenquill_clock *clock, const int64_t *values, size_t count);
 
 #ifdef __cplusplus
 }

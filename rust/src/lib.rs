@@ -1,5 +1,5 @@
 //! The proleptic Gregorian calendar, instants and their RFC 3339 labels, position labels (WebVTT timestamps) and cue lines,
-//! and a checker of multiply-and-shift constants, proved right.
+//! a checker of multiply-and-shift constants, and a follower of the 33-bit transport clock, proved right.
 //!
 //! This package is a safe wrapper over the archive `libovenquill.a`, whose functions are proved to meet their contracts.
 //! What the wrapper itself does is small: it lends the calls places for their answers and gives the numbers of refusals
@@ -12,6 +12,7 @@
 //! | labels of instants | [`InstantLabel`] | [`instant_label`], [`write_instant`], [`read_instant`] |
 //! | labels of positions, cue lines | [`PositionLabel`], [`Cue`] | [`position_label`], [`write_position`], [`read_position`], [`read_cue`] |
 //! | constants that stand for a division | [`Constants`], [`ClaimError`] | [`first_difference`], [`check_bound`] |
+//! | the clock of a transport stream | [`Clock`], [`ClockPosition`] | [`Clock::follow`], [`Clock::follow_all`] |
 //!
 //! Every call takes any numbers and any slices. What it does not take it answers with a [`Refusal`], which has a number and
 //! words; a refused call changes nothing that was lent to it. A count of days is counted from 1970-01-01, an instant in
@@ -44,6 +45,7 @@ mod labels;
 #[doc(hidden)]
 pub mod raw;
 mod refusal;
+mod transport;
 mod weekday;
 
 pub use calendar::{
@@ -56,4 +58,5 @@ pub use labels::{
     InstantLabel, PositionLabel, INSTANT_LABEL_BYTES, POSITIONS, POSITION_LABEL_BYTES,
 };
 pub use refusal::Refusal;
+pub use transport::{Clock, ClockPosition, CLOCK_POSITIONS, CLOCK_VALUES};
 pub use weekday::{weekday, Weekday};

@@ -4,6 +4,14 @@
 
 use crate::{Cue, Date, Fields};
 
+/// A transport clock: `heard` is 0 where nothing has been heard yet, and `position` is then not looked at.
+#[derive(Clone, Copy, Debug, PartialEq, Eq)]
+#[repr(C)]
+pub struct Clock {
+    pub heard: i64,
+    pub position: i64,
+}
+
 extern "C" {
     pub fn ovenquill_days_from_civil(year: i64, month: i64, day: i64, days: *mut i64) -> i64;
     pub fn ovenquill_civil_from_days(days: i64, date: *mut Date) -> i64;
@@ -51,4 +59,7 @@ extern "C" {
         bound: i64,
         least: *mut i64,
     ) -> i64;
+
+    pub fn ovenquill_follow(clock: *mut Clock, value: i64) -> i64;
+    pub fn ovenquill_follow_all(clock: *mut Clock, values: *const i64, count: usize) -> i64;
 }

@@ -3,6 +3,7 @@
 use crate::calendar::{MONTHS, YEARS};
 use crate::instant::{DAY, HOUR, MINUTE, SECOND};
 use crate::labels::{INSTANT_LABEL_BYTES, POSITIONS};
+use crate::transport::{CLOCK_POSITIONS, CLOCK_VALUES};
 use core::error::Error;
 use core::fmt;
 
@@ -122,6 +123,15 @@ refusals! {
     /// A timestamp or a cue line of a wrong shape, one that [`read_position`](crate::read_position) or
     /// [`read_cue`](crate::read_cue) does not read, or a cue whose end is not later than its start.
     MalformedTiming = 13, ("timestamp or cue line of a wrong shape, or a cue's end not later than its start");
+    /// A value of the transport clock outside [`CLOCK_VALUES`], or a position of it, handed in or reached, outside
+    /// [`CLOCK_POSITIONS`].
+    ClockOutOfRange = 14, (
+        "clock value outside {}..{}, or position handed in or reached outside {}..{}",
+        CLOCK_VALUES.start(),
+        CLOCK_VALUES.end(),
+        CLOCK_POSITIONS.start(),
+        CLOCK_POSITIONS.end()
+    );
 }
 
 impl Error for Refusal {}

@@ -1,12 +1,12 @@
-//! The refusals: their numbers and words, and a call that gives each, against document 01's table, which change requests One
-//! and Three change.
+//! The refusals: their numbers and words, and a call that gives each, against document 01's table, which change requests One,
+//! Three and Five change.
 
 mod support;
 
 use ovenquill::{
     add_days, check_bound, civil_from_days, day_of_instant, days_from_civil, first_difference, index_days, is_leap,
     join_instant, last_day_of_month, read_cue, read_instant, read_position, weekday, write_instant, write_position,
-    ClaimError, Constants, Date, Fields, IndexError, Refusal,
+    ClaimError, Clock, Constants, Date, Fields, IndexError, Refusal,
 };
 use std::error::Error;
 use support::plain::{FIRST_YEAR, LAST_YEAR};
@@ -26,6 +26,7 @@ const TABLE: &[(i64, Refusal)] = &[
     (11, Refusal::NoDifferenceUpToBound),
     (12, Refusal::UnequalLengths),
     (13, Refusal::MalformedTiming),
+    (14, Refusal::ClockOutOfRange),
 ];
 
 fn numbers() -> Vec<i64> {
@@ -117,6 +118,15 @@ fn each_refusal_is_given() {
                 read_position(b"").unwrap_err(),
                 read_cue(b"").unwrap_err(),
                 read_cue(b"00:01.000 --> 00:01.000").unwrap_err(),
+            ],
+        ),
+        (
+            14,
+            vec![
+                Clock::Nothing.follow(-1).unwrap_err(),
+                Clock::At(0).follow(1 << 33).unwrap_err(),
+                Clock::At((1 << 53) + 1).follow(0).unwrap_err(),
+                Clock::At(0).follow((1 << 33) - 1).unwrap_err(),
             ],
         ),
     ];

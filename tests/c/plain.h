@@ -44,7 +44,7 @@ static const struct constants paper_most = {1023, 1023, 1048575, 4294967295LL, 4
 
 #define PAPER_END_MAX 4294967295LL
 #define PAPER_BOUND_MAX 4294967294LL
-#define PAPER_LAST_REFUSAL 13
+#define PAPER_LAST_REFUSAL 14
 
 /* The length of a month, 1 to 12. */
 int64_t plain_month_length(int64_t year, int64_t month);
