@@ -6,7 +6,7 @@ use mathlib.Core.Bool.{Bool, true, false, cond, not, _&&_}
 use native.Mathlib.Numerals.{add-one}
 use native.Mathlib.Omega.{arith}
 use lib.Bits.{bitOr, bitXor}
-use lib.Dec.{eqb, ltb}
+use lib.Dec.{eqb, ltb, lit<}
 use lib.IntN.{ℤ, pos, natAbs, _+ℤ_, +ℤ-assoc}
 use lib.ListN.{getD, take}
 use lib.Signed.{ltZ}
@@ -18,6 +18,7 @@ use Rattle.refusal.proofs.Outcomes.{clash, passes, same-value}
 use Rattle.numbers.proofs.Integers.{outside-no, add-since, since-add, since-le, lt-add, add-injective}
 use Rattle.numbers.proofs.Between.{natural-within, inside-pos, inside-from}
 use Rattle.numbers.proofs.Bools.{no-both}
+use Rattle.numbers.proofs.Quotients.{remainder-add}
 use Rattle.calendar.specs.declared.Date.{Date}
 use Rattle.calendar.specs.Range.{firstYear, lastYear, firstCount, lastCount}
 use Rattle.calendar.specs.Gregorian.{divides, leapYear, monthLengths, monthLength, daysBefore, dateOf, nextDay, dateAfter, ValidDate, Earlier, by-year, by-month, by-day}
@@ -30,7 +31,7 @@ use Rattle.calendar.proofs.Lengths.{bits-days}
 use Rattle.calendar.proofs.Order.{Precedes, in-year, in-month, in-day, precedes-less, trichotomy}
 use Rattle.calendar.proofs.Steps.{at, found, count-after, at-in-range}
 use Rattle.calendar.proofs.Tests.{valid-answer, accepted-valid, accepted-is}
-use Rattle.calendar.proofs.Weekdays.{remainder-add, remainder-swap, weekday-between, weekday-after}
+use Rattle.calendar.proofs.Weekdays.{remainder-swap, weekday-between, weekday-after}
 use Rattle.calendar.proofs.Dates.{natural, year-day, counted, count-inside, days-inside, added}
 
 -- counts and valid dates correspond one to one
@@ -214,7 +215,7 @@ documentNumber z = floorRemainder (z +ℤ pos 4) 7
 -- modulo 7 the two numbers are the same
 pub weekday-modulo-seven : (z : ℤ) → floorRemainder (weekday z) 7 ≡ documentNumber z
 unfolding weekday
-weekday-modulo-seven z = sym (remainder-add (z +ℤ pos 3) (pos 1)) ∙ ap (λ z. floorRemainder z 7) (+ℤ-assoc z (pos 3) (pos 1))
+weekday-modulo-seven z = sym (remainder-add 7 (lit< tt) (z +ℤ pos 3) (pos 1)) ∙ ap (λ z. floorRemainder z 7) (+ℤ-assoc z (pos 3) (pos 1))
 
 -- so they differ on Sundays only
 pub only-sunday-changes : (z : ℤ) → weekday z ≡ pos (cond (eqb (documentNumber z) 0) 7 (documentNumber z))
@@ -228,7 +229,7 @@ only-sunday-changes z =
 pub weekday-moves-by : (z p : ℤ) → floorRemainder (weekday (z +ℤ p)) 7 ≡ floorRemainder (weekday z +ℤ p) 7
 weekday-moves-by z p =
     weekday-modulo-seven (z +ℤ p) ∙ remainder-swap z p (pos 4) ∙ ap (λ n. (n + floorRemainder p 7) % 7) (sym (weekday-modulo-seven z))
-    ∙ sym (remainder-add (weekday z) p)
+    ∙ sym (remainder-add 7 (lit< tt) (weekday z) p)
 
 -- the day of the year: 1 to 366 in a leap year, 1 to 365 in a common one
 year-length : (y : ℕ) → cond (leapYear (baseYear +ℤ pos y)) (pos 366) (pos 365) ≡ pos (365 + leapDay y)

@@ -1,25 +1,17 @@
 -- Remainders by 7, weekdays of sums, and weekdays by a product.
-use Prim.Native.Nat.{ℕ, suc, _+_, _-_, _*_, _/_, _%_, _^_, _≤_, _<_}
+use Prim.Native.Nat.{ℕ, _+_, _*_, _/_, _%_, _^_, _≤_, _<_}
 use mathlib.Core.Path.{_≡_, ap, sym, _∙_}
 use native.Mathlib.Omega.{arith}
+use lib.Dec.{lit<}
 use lib.IntN.{ℤ, pos, negsuc, natAbs, _+ℤ_, +ℤ-assoc, +ℤ-comm}
 use Rattle.numbers.specs.Floor.{floorRemainder}
-use Rattle.numbers.proofs.Integers.{on-sub}
+use Rattle.numbers.proofs.Quotients.{remainder-add}
 use Rattle.calendar.specs.Count.{weekday}
 
--- the remainder of a sum
-pub remainder-add : (z p : ℤ) → floorRemainder (z +ℤ p) 7 ≡ (floorRemainder z 7 + floorRemainder p 7) % 7
-remainder-add (pos a) (pos b) = omega arith
-remainder-add (pos a) (negsuc b) =
-    on-sub (λ z. floorRemainder z 7 ≡ (a % 7 + (6 - b % 7)) % 7) a (suc b) (λ l. omega arith) (λ l. omega arith)
-remainder-add (negsuc a) (pos b) =
-    on-sub (λ z. floorRemainder z 7 ≡ (6 - a % 7 + b % 7) % 7) b (suc a) (λ l. omega arith) (λ l. omega arith)
-remainder-add (negsuc a) (negsuc b) = omega arith
-
--- the same of the summand in the middle
+-- the remainder of a sum, by the summand in the middle
 pub remainder-swap : (z p k : ℤ) → floorRemainder (z +ℤ p +ℤ k) 7 ≡ (floorRemainder (z +ℤ k) 7 + floorRemainder p 7) % 7
 remainder-swap z p k =
-    ap (λ z. floorRemainder z 7) (+ℤ-assoc z p k ∙ ap (λ x. z +ℤ x) (+ℤ-comm p k) ∙ sym (+ℤ-assoc z k p)) ∙ remainder-add (z +ℤ k) p
+    ap (λ z. floorRemainder z 7) (+ℤ-assoc z p k ∙ ap (λ x. z +ℤ x) (+ℤ-comm p k) ∙ sym (+ℤ-assoc z k p)) ∙ remainder-add 7 (lit< tt) (z +ℤ k) p
 
 remainder-le : (z : ℤ) → floorRemainder z 7 ≤ 6
 remainder-le (pos a) = omega arith

@@ -1,14 +1,14 @@
--- Floored quotients keep the order, and undo a product with a remainder added.
+-- Floored quotients keep the order, and undo a product with a remainder added; remainders add up.
 use Prim.Native.Nat.{ℕ, zero, suc, _+_, _-_, _*_, _/_, _%_, _≤_, _<_}
-use mathlib.Core.Path.{_≡_, refl, sym, ap, _∙_}
+use mathlib.Core.Path.{_≡_, refl, sym, ap, ap₂, _∙_}
 use mathlib.Core.Bool.{false, true}
-use native.Mathlib.Nat.{div-mul-le-self, div-eq-of-lt-le, mod-eq-of-lt, mul-add-mod-self-right, le-div-iff-mul-le}
+use native.Mathlib.Nat.{div-add-mod', mod-lt, div-mul-le-self, div-eq-of-lt-le, mod-eq-of-lt, mul-add-mod-self-right, le-div-iff-mul-le}
 use native.Mathlib.Omega.{arith}
-use lib.IntN.{ℤ, pos, negsuc, _+ℤ_, _*ℤ_, +ℤ-idr, +ℤ-assoc, +ℤ-sucℤ, sucℤ-*ℤ}
+use lib.IntN.{ℤ, pos, negsuc, _+ℤ_, _-ℤ_, _*ℤ_, +ℤ-idr, +ℤ-assoc, +ℤ-comm, +ℤ-sucℤ, sucℤ-*ℤ, +ℤ-negℤ-cancel, -ℤ-+ℤ-cancel}
 use lib.Signed.{ltZ}
 use borrow.Author.Tests.{ltb-false, le-ltb}
 use Rattle.numbers.specs.Floor.{floorQuotient, floorRemainder}
-use Rattle.numbers.proofs.Floor.{neg-add}
+use Rattle.numbers.proofs.Floor.{neg-add, quotient-and-remainder}
 use Rattle.numbers.proofs.Bools.{no-both}
 
 div-monotone : (a b d : ℕ) → 0 < d → a ≤ b → a / d ≤ b / d
@@ -49,3 +49,35 @@ mul-add z (suc n) d =
     ap (λ (y : ℤ). y *ℤ pos d) (+ℤ-sucℤ z (pos n)) ∙ sucℤ-*ℤ (z +ℤ pos n) (pos d) ∙ ap (λ (y : ℤ). y +ℤ pos d) (mul-add z n d)
     ∙ +ℤ-assoc (z *ℤ pos d) (pos (n * d)) (pos d)
     ∙ ap (λ (n : ℕ). z *ℤ pos d +ℤ pos n) (omega arith)
+
+mul-sum : (a b : ℤ) (d : ℕ) → (a +ℤ b) *ℤ pos d ≡ a *ℤ pos d +ℤ b *ℤ pos d
+mul-sum a (pos n) d = mul-add a n d
+mul-sum a (negsuc n) d =
+    let z = a +ℤ negsuc n in
+    let whole = sym (ap (λ (y : ℤ). y *ℤ pos d) (-ℤ-+ℤ-cancel a (pos (suc n)))) ∙ mul-add z (suc n) d in
+    sym (ap (λ (y : ℤ). y -ℤ pos (suc n * d)) whole ∙ +ℤ-negℤ-cancel (z *ℤ pos d) (pos (suc n * d)))
+
+-- the remainder of a sum
+module _ (d : ℕ) (h : 0 < d) where
+  regroup : (a b : ℤ) (r s : ℕ) → (a +ℤ pos r) +ℤ (b +ℤ pos s) ≡ (a +ℤ b) +ℤ pos (r + s)
+  regroup a b r s =
+      +ℤ-assoc a (pos r) (b +ℤ pos s)
+      ∙ ap (λ y. a +ℤ y) (sym (+ℤ-assoc (pos r) b (pos s)) ∙ ap (λ y. y +ℤ pos s) (+ℤ-comm (pos r) b) ∙ +ℤ-assoc b (pos r) (pos s))
+      ∙ sym (+ℤ-assoc a b (pos (r + s)))
+
+  carried : (z : ℤ) (n : ℕ) → floorRemainder (z *ℤ pos d +ℤ pos n) d ≡ n % d
+  carried z n =
+      ap (λ y. floorRemainder y d)
+      (ap (λ m. z *ℤ pos d +ℤ pos m) (sym (div-add-mod' n d)) ∙ sym (+ℤ-assoc (z *ℤ pos d) (pos (n / d * d)) (pos (n % d)))
+      ∙ ap (λ y. y +ℤ pos (n % d)) (sym (mul-add z (n / d) d)))
+      ∙ remainder-is d (n % d) (mod-lt n h) (z +ℤ pos (n / d))
+
+  pub remainder-add : (z p : ℤ) → floorRemainder (z +ℤ p) d ≡ (floorRemainder z d + floorRemainder p d) % d
+  remainder-add z p =
+      let q = floorQuotient z d in
+      let s = floorQuotient p d in
+      ap (λ y. floorRemainder y d)
+      (ap₂ _+ℤ_ (sym (quotient-and-remainder z d h)) (sym (quotient-and-remainder p d h))
+      ∙ regroup (q *ℤ pos d) (s *ℤ pos d) (floorRemainder z d) (floorRemainder p d)
+      ∙ ap (λ y. y +ℤ pos (floorRemainder z d + floorRemainder p d)) (sym (mul-sum q s d)))
+      ∙ carried (q +ℤ s) (floorRemainder z d + floorRemainder p d)

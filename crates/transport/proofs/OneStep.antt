@@ -4,6 +4,7 @@ use mathlib.Core.Path.{_≡_, refl, sym, ap, ap₂, _∙_}
 use mathlib.Core.Bool.{Bool, true, false}
 use native.Mathlib.Nat.{mod-eq-of-lt}
 use native.Mathlib.Omega.{arith}
+use lib.Dec.{lit<}
 use lib.IntN.{ℤ, pos, negsuc, negℤ, subℕ, _+ℤ_, _-ℤ_}
 use lib.Signed.{ltZ}
 use borrow.Author.Tests.{ltb-true, ltb-false, lt-ltb, le-ltb}
@@ -11,17 +12,10 @@ use Rattle.numbers.specs.Floor.{floorRemainder}
 use Rattle.numbers.proofs.Bools.{no-both}
 use Rattle.numbers.proofs.Floor.{remainder-below}
 use Rattle.numbers.proofs.Integers.{on-sub, sub-neg, sub-pos}
+use Rattle.numbers.proofs.Quotients.{remainder-add}
 use Rattle.transport.specs.Wraps.{wrap, half, Step, leadTo, stepTo}
 
--- the remainder of a sum, and of a number's negative
-remainder-add : (z p : ℤ) → floorRemainder (z +ℤ p) wrap ≡ (floorRemainder z wrap + floorRemainder p wrap) % wrap
-remainder-add (pos a) (pos b) = omega arith
-remainder-add (pos a) (negsuc b) =
-    on-sub (λ z. floorRemainder z wrap ≡ (a % wrap + (wrap - 1 - b % wrap)) % wrap) a (suc b) (λ l. omega arith) (λ l. omega arith)
-remainder-add (negsuc a) (pos b) =
-    on-sub (λ z. floorRemainder z wrap ≡ (wrap - 1 - a % wrap + b % wrap) % wrap) b (suc a) (λ l. omega arith) (λ l. omega arith)
-remainder-add (negsuc a) (negsuc b) = omega arith
-
+-- the remainder of a number's negative
 remainder-neg : (z : ℤ) → floorRemainder (negℤ z) wrap ≡ (wrap - floorRemainder z wrap) % wrap
 remainder-neg (pos zero) = omega arith
 remainder-neg (pos (suc a)) = omega arith
@@ -31,10 +25,10 @@ remainder-neg (negsuc a) = omega arith
 module _ (position value : ℤ) where
   lead : leadTo position value ≡ (floorRemainder value wrap + (wrap + half) - floorRemainder position wrap) % wrap
   lead =
-      let a = remainder-add (value -ℤ position) (pos half) in
-      let b = remainder-add value (negℤ position) in
+      let a = remainder-add wrap (lit< tt) (value -ℤ position) (pos half) in
+      let b = remainder-add wrap (lit< tt) value (negℤ position) in
       let n = remainder-neg position in
-      let k = remainder-below position wrap (omega arith) in
+      let k = remainder-below position wrap (lit< tt) in
       omega arith
 
   -- it fits, within the limits
@@ -46,9 +40,9 @@ module _ (position value : ℤ) where
         low = on-sub (λ s. ltZ s (negℤ (pos half)) ≡ false) r half (λ l. le-ltb (half - 1) (half - suc r) (omega arith)) (λ l. refl);
         high = on-sub (λ s. ltZ s (pos half) ≡ true) r half (λ l. refl) (λ l. lt-ltb (r - half) half (omega arith));
         fits =
-            let a = remainder-add position (subℕ r half) in
-            let k = remainder-below position wrap (omega arith) in
-            let v = remainder-below value wrap (omega arith) in
+            let a = remainder-add wrap (lit< tt) position (subℕ r half) in
+            let k = remainder-below position wrap (lit< tt) in
+            let v = remainder-below value wrap (lit< tt) in
             let s : floorRemainder (subℕ r half) wrap ≡ (r + half) % wrap =
             on-sub (λ s. floorRemainder s wrap ≡ (r + half) % wrap) r half (λ l. omega arith) (λ l. omega arith) in
             omega arith;
@@ -56,7 +50,7 @@ module _ (position value : ℤ) where
 
   -- and no other does
   pub step-is-one : (s : ℤ) → Step position value s → s ≡ stepTo position value
-  step-is-one s w = go (leadTo position value) lead s (w .low) (w .high) (sym (remainder-add position s) ∙ w .fits)
+  step-is-one s w = go (leadTo position value) lead s (w .low) (w .high) (sym (remainder-add wrap (lit< tt) position s) ∙ w .fits)
     where
       go :
           (r : ℕ) → r ≡ (floorRemainder value wrap + (wrap + half) - floorRemainder position wrap) % wrap →
@@ -64,12 +58,12 @@ module _ (position value : ℤ) where
           (floorRemainder position wrap + floorRemainder s wrap) % wrap ≡ floorRemainder value wrap → s ≡ subℕ r half
       go r e (pos a) low high fits =
           let l = ltb-true a half high in
-          let k = remainder-below position wrap (omega arith) in
+          let k = remainder-below position wrap (lit< tt) in
           let m : r ≡ a + half = omega arith in
           sym (sub-pos r half (omega arith) ∙ ap pos (omega arith))
       go r e (negsuc a) low high fits =
           let l = ltb-false (half - 1) a low in
-          let k = remainder-below position wrap (omega arith) in
+          let k = remainder-below position wrap (lit< tt) in
           let m : r + suc a ≡ half = omega arith in
           sym (sub-neg r half (omega arith) ∙ ap negsuc (omega arith))
 
