@@ -14,7 +14,7 @@ use steps::WRAP;
 mod steps;
 
 ghost use mathlib.Core.Path.{_≡_};
-ghost use Prim.Native.Nat.{_≤_, _^_};
+ghost use Prim.Native.Nat.{_/_, _≤_, _^_};
 ghost use lib.IntN.{pos};
 ghost use Rattle.refusal.specs.Outcome.{value, refused};
 ghost use Rattle.transport.specs.Wraps.{positionAt};
@@ -61,14 +61,14 @@ pub fn follow(clock: Clock, value: i64) -> Followed
 }
 
 // Where nothing has been heard yet.
-fn first(value: i64) -> Followed
-    ensures answer { λ r. ⌜ positionOutcome (r .answer) ≡ followAnswer Nothing value ⌝ }
-    ensures clock { λ r. ⌜ r .clock ≡ clockAfter Nothing value ⌝ }
+fn first(heard: i64) -> Followed
+    ensures answer { λ r. ⌜ positionOutcome (r .answer) ≡ followAnswer Nothing heard ⌝ }
+    ensures clock { λ r. ⌜ r .clock ≡ clockAfter Nothing heard ⌝ }
 {
-    if numbers::outside(0, LAST_VALUE, value) {
+    if numbers::outside(0, LAST_VALUE, heard) {
         return kept(Clock::Nothing);
     }
-    accepted(value as u64)
+    accepted(heard as u64)
 }
 
 // From a position on.
@@ -109,9 +109,17 @@ fn accepted(ticks: u64) -> Followed
         clock: Clock::At(ticks as i64),
         answer: PositionAnswer::Value(Position {
             ticks: ticks as i64,
-            milliseconds: (ticks / 90) as i64,
+            milliseconds: milliseconds(ticks) as i64,
         }),
     }
+}
+
+// Ticks in milliseconds, rounded down.
+fn milliseconds(ticks: u64) -> u64
+    requires { ⌜ ticks ≤ 2 ^ 53 ⌝ }
+    ensures { λ r. ⌜ r ≡ ticks / 90 ⌝ }
+{
+    ticks / 90
 }
 
 // The values in order, each as `follow` takes it; those that it refuses are passed over.

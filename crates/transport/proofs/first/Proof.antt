@@ -14,26 +14,26 @@ use Rattle.transport.proofs.first.Tie as tie
 returns : tie.Need-returns
 returns c =
     let s = c .before .before .before in
-    let h = answered (pos 0) lastValue (s .fits .value) (c .before .before .outside .ensures) (c .before .if1 .taken) in
-    when-refused Nothing (s .args .value) (no-value Nothing (s .args .value) h) (c .kept .ensures)
+    let h = answered (pos 0) lastValue (s .fits .heard) (c .before .before .outside .ensures) (c .before .if1 .taken) in
+    when-refused Nothing (s .args .heard) (no-value Nothing (s .args .heard) h) (c .kept .ensures)
 
 cast-accepted : tie.Need-cast-accepted
 cast-accepted c =
-    let f = c .before .before .fits .value in
+    let f = c .before .before .fits .heard in
     cast-within f (natural-within 0 lastValue _ (answered (pos 0) lastValue f (c .before .outside .ensures) (c .if1 .left)))
 
 accepted-requires : tie.Need-accepted-requires
 accepted-requires c κs =
-    let f = c .before .before .fits .value in
+    let f = c .before .before .fits .heard in
     let w = natural-within 0 lastValue _ (answered (pos 0) lastValue f (c .before .outside .ensures) (c .if1 .left)) in
     omega (arith, read-high f w)
 
 returns-2 : tie.Need-returns-2
 returns-2 c =
     let s = c .before .before .before in
-    let h = answered (pos 0) lastValue (s .fits .value) (c .before .before .outside .ensures) (c .before .if1 .left) in
-    let same = sym (read-is (s .fits .value) (natural-within 0 lastValue _ h)) in
-    when-accepted Nothing (s .args .value) (first-value (s .args .value) h) same (c .accepted .ensures)
+    let h = answered (pos 0) lastValue (s .fits .heard) (c .before .before .outside .ensures) (c .before .if1 .left) in
+    let same = sym (read-is (s .fits .heard) (natural-within 0 lastValue _ h)) in
+    when-accepted Nothing (s .args .heard) (first-value (s .args .heard) h) same (c .accepted .ensures)
 
 pub first-spec : {M : Type 1} → statement M
 first-spec = tie.close (tie.spec (λ c κs. search needs) (λ c κs. search needs) returns cast-accepted accepted-requires returns-2)

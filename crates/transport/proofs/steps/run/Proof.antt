@@ -117,9 +117,6 @@ loop-again c =
     (omega arith, omega arith, l .inv .2, l .inv .3, again s (l .i) at (l .skipped) (omega arith) (passed-over at heard h (l .skipped)) ∙ l .inv .4)))
     (c .if1 .came)
 
-cast-t18 : tie.Need-cast-t18 Inv-loop μ-loop
-cast-t18 c = let l = c .before .loop .inv .2 in pos-fits (omega arith)
-
 returns : tie.Need-returns Inv-loop μ-loop
 returns c =
     let l = c .before .loop in
@@ -146,5 +143,5 @@ run-spec =
     add-i
     loop-less
     loop-again
-    cast-t18
+    (λ c. let l = c .before .loop .inv .2 in pos-fits (omega arith))
     returns)
