@@ -1,13 +1,17 @@
 -- The value, the position handed in and the position reached are tested in turn.
+use Prim.Native.Nat.{_-_}
 use mathlib.Core.Path.{_≡_, refl, sym, ap, _∙_}
+use mathlib.Core.Bool.{false}
 use native.Mathlib.Omega.{arith}
-use lib.IntN.{pos, natAbs}
+use lib.IntN.{pos, natAbs, subℕ}
 use mir.Facts.{toZ-ofZ}
 use borrow.Author.Needs.{needs}
 use borrow.Author.Tests.{not-true, not-false}
+use Rattle.numbers.specs.Range.{outside}
 use Rattle.numbers.proofs.Between.{natural-within, cast-within, read-high}
 use Rattle.numbers.proofs.Machine.{read, answered}
-use Rattle.transport.specs.Wraps.{lastValue, lastPosition}
+use Rattle.transport.specs.Wraps.{half, lastValue, lastPosition, reached}
+use Rattle.transport.specs.Answers.{notFollowed}
 use Rattle.transport.specs.declared.Clock.the-variants.{At}
 use Rattle.transport.proofs.Answered.{when-refused, when-accepted, no-value, bad-clock, landed, leads, leads-to, read-is}
 use Rattle.transport.proofs.next.Statement.{statement}
@@ -64,19 +68,31 @@ lands-requires c κs = search needs
 kept-requires-3 : tie.Need-kept-requires-3
 kept-requires-3 c κs = search needs
 
+-- what the tests leave to be said: of the position that is reached
+at-the-end :
+    (c : tie.After-lands) → let a = c .before .before .before .before .before .before .args in
+    let there = subℕ (c .before .ahead .result) half in
+    (notFollowed (At (a .position)) (a .value) ≡ outside (pos 0) lastPosition there)
+    × (outside (pos 0) lastPosition there ≡ false → reached (At (a .position)) (a .value) ≡ pos (c .before .ahead .result - half))
+at-the-end c =
+    let s = c .before .before .before .before .before .before in
+    let ahead = c .before .ahead in
+    let h = answered (pos 0) lastPosition (s .fits .position) (c .before .before .before .outside2 .ensures) (c .before .before .if2 .left) in
+    let k = answered (pos 0) lastValue (s .fits .value) (c .before .before .before .before .before .outside .ensures) (c .before .before .before .before .if1 .left) in
+    let here = read-is (s .fits .position) (natural-within 0 lastPosition _ h) in
+    let same = read-is (s .fits .value) (natural-within 0 lastValue _ k) in
+    let p = natAbs (read (s .args .position)) in
+    let v = natAbs (read (s .args .value)) in
+    (leads p v (ahead .result) here same (ahead .ensures) h k, leads-to p v (ahead .result) here same (ahead .ensures))
+
 returns-3 : tie.Need-returns-3
 returns-3 c =
     let s = c .before .before .before .before .before .before .before .before in
     let a = s .args in
-    let h = answered (pos 0) lastPosition (s .fits .position) (c .before .before .before .before .before .outside2 .ensures) (c .before .before .before .before .if2 .left) in
-    let k = answered (pos 0) lastValue (s .fits .value) (c .before .before .before .before .before .before .before .outside .ensures) (c .before .before .before .before .before .before .if1 .left) in
-    let here = read-is (s .fits .position) (natural-within 0 lastPosition _ h) in
-    let same = read-is (s .fits .value) (natural-within 0 lastValue _ k) in
-    let ahead = c .before .before .before .ahead in
-    let l = leads (natAbs (read (a .position))) (natAbs (read (a .value))) (ahead .result) here same (ahead .ensures) h k in
+    let lands = c .before .before .lands in
+    let far = not-false _ (sym (lands .ensures) ∙ not-true _ (c .before .if3 .taken)) in
     let e = c .kept3 .ensures in
-    when-refused (At (a .position)) (a .value) (l ∙ not-false _ (sym (c .before .before .lands .ensures) ∙ not-true _ (c .before .if3 .taken)))
-    (e .0, e .1 ∙ ap At (toZ-ofZ (s .fits .position)))
+    when-refused (At (a .position)) (a .value) (at-the-end (c .before .before) .0 ∙ far) (e .0, e .1 ∙ ap At (toZ-ofZ (s .fits .position)))
 
 sub-accepted : tie.Need-sub-accepted
 sub-accepted c = landed _ (not-true _ (sym (c .before .lands .ensures) ∙ not-false _ (c .if3 .left))) .0
@@ -86,16 +102,11 @@ accepted-requires c κs = landed _ (not-true _ (sym (c .before .lands .ensures) 
 
 returns-4 : tie.Need-returns-4
 returns-4 c =
-    let s = c .before .before .before .before .before .before .before .before in
-    let a = s .args in
-    let h = answered (pos 0) lastPosition (s .fits .position) (c .before .before .before .before .before .outside2 .ensures) (c .before .before .before .before .if2 .left) in
-    let k = answered (pos 0) lastValue (s .fits .value) (c .before .before .before .before .before .before .before .outside .ensures) (c .before .before .before .before .before .before .if1 .left) in
-    let here = read-is (s .fits .position) (natural-within 0 lastPosition _ h) in
-    let same = read-is (s .fits .value) (natural-within 0 lastValue _ k) in
-    let ahead = c .before .before .before .ahead in
-    let l = leads (natAbs (read (a .position))) (natAbs (read (a .value))) (ahead .result) here same (ahead .ensures) in
-    let inside = not-true _ (sym (c .before .before .lands .ensures) ∙ not-false _ (c .before .if3 .left)) in
-    when-accepted (At (a .position)) (a .value) (l h k ∙ inside) (leads-to _ _ (ahead .result) here same (ahead .ensures) inside) (c .accepted .ensures)
+    let a = c .before .before .before .before .before .before .before .before .args in
+    let lands = c .before .before .lands in
+    let inside = not-true _ (sym (lands .ensures) ∙ not-false _ (c .before .if3 .left)) in
+    let end = at-the-end (c .before .before) in
+    when-accepted (At (a .position)) (a .value) (end .0 ∙ inside) (end .1 inside) (c .accepted .ensures)
 
 pub next-spec : {M : Type 1} → statement M
 next-spec =
