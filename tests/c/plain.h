@@ -1,9 +1,9 @@
 /*
- * Document 01 and change requests One, Three and Four in plain C, written from their text and sharing nothing with the library:
- * years are counted one by one, labels go by snprintf, the reader of instants goes byte by byte, the readers of timestamps and
- * cue lines take one part after the other, and the constants go by trying every n. Each call here has the answer, and leaves
- * in what it is lent the bytes, that the library's call of the same name must have and leave: a date is three numbers, fields
- * are seven, a cue is two.
+ * Document 01 and change requests One, Three, Four and Five in plain C, written from their text and sharing nothing with
+ * the library: years are counted one by one, labels go by snprintf, the reader of instants goes byte by byte, the readers
+ * of timestamps and cue lines take one part after the other, the constants go by trying every n, and a step of the transport
+ * clock by trying three. Each call here has the answer, and leaves in what it is lent the bytes, that the library's call of
+ * the same name must have and leave: a date is three numbers, fields are seven, a cue and a clock are two.
  */
 #ifndef PLAIN_H
 #define PLAIN_H
@@ -46,6 +46,13 @@ static const struct constants paper_most = {1023, 1023, 1048575, 4294967295LL, 4
 #define PAPER_BOUND_MAX 4294967294LL
 #define PAPER_LAST_REFUSAL 14
 
+/* Change request Five's, in ticks: values are below the wrap, and steps go from the least to before the end. */
+#define PAPER_CLOCK_WRAP 8589934592LL
+#define PAPER_LEAST_STEP (-4294967296LL)
+#define PAPER_STEP_END 4294967296LL
+#define PAPER_LAST_CLOCK_POSITION 9007199254740992LL
+#define PAPER_TICKS_PER_MILLISECOND 90
+
 /* The length of a month, 1 to 12. */
 int64_t plain_month_length(int64_t year, int64_t month);
 
@@ -67,6 +74,8 @@ int64_t plain_read_position(const uint8_t *text, size_t length);
 int64_t plain_read_cue(const uint8_t *line, size_t length, int64_t *cue);
 int64_t plain_first_difference(struct constants q, int64_t end);
 int64_t plain_check_bound(struct constants q, int64_t bound, int64_t *least);
+int64_t plain_follow(int64_t *clock, int64_t value);
+int64_t plain_follow_all(int64_t *clock, const int64_t *values, size_t count);
 
 static inline int outside(int64_t first, int64_t last, int64_t n)
 {
