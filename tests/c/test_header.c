@@ -1,4 +1,7 @@
-/* The header's macros, structs and words against document 01's numbers. Compiled as C and as C++, the header needing no other. */
+/*
+ * The header's macros, structs and words against the numbers of document 01 and of change request Five. Compiled as C and as
+ * C++, the header needing no other.
+ */
 #include "ovenquill.h"
 
 #include <string.h>
@@ -26,6 +29,11 @@ static void check_ranges(void)
     SAME(OVENQUILL_LAST_INSTANT, PAPER_LAST_INSTANT);
     SAME(OVENQUILL_FIRST_POSITION, 0);
     SAME(OVENQUILL_LAST_POSITION, PAPER_LAST_POSITION);
+    SAME(OVENQUILL_FIRST_CLOCK_VALUE, 0);
+    SAME(OVENQUILL_LAST_CLOCK_VALUE, PAPER_CLOCK_WRAP - 1);
+    SAME(OVENQUILL_FIRST_CLOCK_POSITION, 0);
+    SAME(OVENQUILL_LAST_CLOCK_POSITION, PAPER_LAST_CLOCK_POSITION);
+    SAME(OVENQUILL_TICKS_PER_MILLISECOND, PAPER_TICKS_PER_MILLISECOND);
     SAME(OVENQUILL_INSTANT_LABEL_BYTES, PAPER_INSTANT_LABEL_BYTES);
     SAME(OVENQUILL_POSITION_LABEL_MIN_BYTES, PAPER_POSITION_LABEL_MIN_BYTES);
     SAME(OVENQUILL_POSITION_LABEL_MAX_BYTES, PAPER_POSITION_LABEL_MAX_BYTES);
@@ -86,19 +94,22 @@ static void check_refusals(void)
         same("words of an answer", done[i], strcmp(ovenquill_refusal_text(done[i]), "not refused"), 0);
 }
 
-/* The structs lie in memory as document 01's numbers do in a row. */
+/* The structs lie in memory as the papers' numbers do in a row; a clock at its start has heard nothing. */
 static void check_structs(void)
 {
     static const ovenquill_date date = {1, 2, 3};
     static const ovenquill_fields fields = {1, 2, 3, 4, 5, 6, 7};
     static const ovenquill_cue cue = {1, 2};
+    static const ovenquill_clock clock = {1, 2}, start = OVENQUILL_CLOCK_START;
     static const int64_t row[] = {1, 2, 3, 4, 5, 6, 7};
     SAME(sizeof date, 3 * sizeof *row);
     SAME(sizeof fields, 7 * sizeof *row);
     SAME(sizeof cue, 2 * sizeof *row);
+    SAME(sizeof clock, 2 * sizeof *row);
     SAME(memcmp(&date, row, sizeof date), 0);
     SAME(memcmp(&fields, row, sizeof fields), 0);
     SAME(memcmp(&cue, row, sizeof cue), 0);
+    SAME(memcmp(&clock, row, sizeof clock), 0);
     SAME(date.year, 1);
     SAME(date.month, 2);
     SAME(date.day, 3);
@@ -111,6 +122,11 @@ static void check_structs(void)
     SAME(fields.millisecond, 7);
     SAME(cue.start, 1);
     SAME(cue.end, 2);
+    SAME(sizeof clock.heard, sizeof *row);
+    SAME(sizeof clock.position, sizeof *row);
+    SAME(clock.heard, 1);
+    SAME(clock.position, 2);
+    SAME(start.heard, 0);
 }
 
 static void check_version(void)
