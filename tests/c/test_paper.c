@@ -1,6 +1,7 @@
 /*
- * Document 01's rows, "Numbers to try", and the words of change request One on reading positions, of Three on small letters
- * and of Four on weekdays, with a week of dates by the names and the numbers of their days. Compiled as C and as C++.
+ * Document 01's rows, "Numbers to try", and the words of change request One on reading positions, of Three on small letters,
+ * of Four on weekdays, with a week of dates by the names and the numbers of their days, and of Five on the transport clock.
+ * Compiled as C and as C++.
  */
 #include <string.h>
 
@@ -232,6 +233,98 @@ static void check_all_constants(void)
     check_constants(1, 0, 1, 1, 1, 0, 0, 0);
 }
 
+static void check_clock(const char *what, int64_t input, ovenquill_clock clock, int64_t heard, int64_t position)
+{
+    same(what, input, clock.heard, heard);
+    same(what, input, clock.position, position);
+}
+
+static void check_accepted(ovenquill_clock *clock, int64_t value, int64_t milliseconds, int64_t position)
+{
+    same("an accepted value", value, ovenquill_follow(clock, value), milliseconds);
+    check_clock("the clock of an accepted value", value, *clock, 1, position);
+}
+
+static void check_refused(ovenquill_clock *clock, int64_t value)
+{
+    const ovenquill_clock kept = *clock;
+    same("a refused value", value, ovenquill_follow(clock, value), OVENQUILL_CLOCK_OUT_OF_RANGE);
+    check_clock("the clock of a refused value", value, *clock, kept.heard, kept.position);
+}
+
+/*
+ * "The first value is taken as it is. After that the step s is the one number with -2^32 <= s < 2^32 that fits the new
+ * value modulo 2^33." "An accepted value also answers its position in milliseconds, ticks divided by 90, rounded down."
+ */
+static void check_steps(void)
+{
+    ovenquill_clock clock = OVENQUILL_CLOCK_START, forwards = OVENQUILL_CLOCK_START, backwards = OVENQUILL_CLOCK_START;
+    ovenquill_clock last = {1, 9007199254740992}, restarted = OVENQUILL_CLOCK_START;
+    check_accepted(&clock, 8589934591, 95443717, 8589934591);
+    /* the wrap, after 26 h 30 min 43.717 s, and back */
+    check_accepted(&clock, 0, ((26 * 60 + 30) * 60 + 43) * 1000 + 717, 8589934592);
+    check_accepted(&clock, 8589934591, 95443717, 8589934591);
+    /* three steps of 2^32 - 1; then both ways are 2^32 long, and it goes backwards */
+    check_accepted(&forwards, 1, 0, 1);
+    check_accepted(&forwards, 4294967296, 47721858, 4294967296);
+    check_accepted(&forwards, 8589934591, 95443717, 8589934591);
+    check_accepted(&forwards, 4294967294, 143165576, 12884901886);
+    check_accepted(&forwards, 8589934590, 95443717, 8589934590);
+    check_accepted(&backwards, 4294967296, 47721858, 4294967296);
+    check_accepted(&backwards, 0, 0, 0);
+    check_accepted(&backwards, 89, 0, 89);
+    check_accepted(&backwards, 90, 1, 90);
+    check_accepted(&backwards, 91, 1, 91);
+    check_accepted(&last, 0, 100079991719344, 9007199254740992);
+    check_accepted(&last, 4294967296, 100079943997485, 9007194959773696);
+    /* "A restarted follower knows nothing of earlier wraps." */
+    check_accepted(&restarted, 0, 0, 0);
+}
+
+/*
+ * "Refuse with 14, state kept (also where nothing has been heard yet), exactly if a value is below 0 or is 2^33 or more, or
+ * the position handed in or reached is outside 0..2^53; the next value is then read as if the refused one had not come."
+ */
+static void check_refused_values(void)
+{
+    ovenquill_clock clock = OVENQUILL_CLOCK_START, below = {1, -1}, beyond = {1, 9007199254740993};
+    ovenquill_clock first = {1, 0}, last = {1, 9007199254740992};
+    check_refused(&clock, -1);
+    check_refused(&clock, 8589934592);
+    check_accepted(&clock, 8589934591, 95443717, 8589934591);
+    check_refused(&clock, -1);
+    check_refused(&clock, 8589934592);
+    check_accepted(&clock, 0, 95443717, 8589934592);
+    check_refused(&below, 0);
+    check_refused(&below, 8589934591);
+    check_refused(&beyond, 0);
+    check_refused(&beyond, 1);
+    check_refused(&first, 8589934591);
+    check_refused(&first, 4294967296);
+    check_accepted(&first, 4294967295, 47721858, 4294967295);
+    check_refused(&last, 1);
+    check_refused(&last, 4294967295);
+    check_accepted(&last, 8589934591, 100079991719344, 9007199254740991);
+    check_accepted(&last, 0, 100079991719344, 9007199254740992);
+}
+
+/*
+ * "A batch call takes a list of values in order, passes over refused ones and answers the end state and how many it passed
+ * over; a run split into batches anywhere ends in the same state."
+ */
+static void check_batches(void)
+{
+    static const int64_t values[] = {-1, 8589934591, 8589934592, 4294967294, 8589934589, -1, 0};
+    size_t split;
+    for (split = 0; split <= COUNT(values); split++) {
+        ovenquill_clock clock = OVENQUILL_CLOCK_START;
+        int64_t passed_over = ovenquill_follow_all(&clock, values, split);
+        passed_over += ovenquill_follow_all(&clock, values + split, COUNT(values) - split);
+        same("a batch", (int64_t)split, passed_over, 3);
+        check_clock("the clock of a batch", (int64_t)split, clock, 1, 17179869184);
+    }
+}
+
 int main(void)
 {
     check_calendar();
@@ -241,5 +334,8 @@ int main(void)
     check_timestamps();
     check_cues();
     check_all_constants();
-    return finish("the numbers of document 01 and of change requests One, Three and Four");
+    check_steps();
+    check_refused_values();
+    check_batches();
+    return finish("the numbers of document 01 and of change requests One, Three, Four and Five");
 }
