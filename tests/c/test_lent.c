@@ -1,7 +1,7 @@
 /*
  * Every call, with what it is lent in heap blocks of exactly that size. Answers, buffers, lists and places are held to plain.h,
  * whole: what a refused call was lent and what stands after a label must be as it was. The texts for the readers of timestamps
- * and cue lines are in test_timings.c. Compiled as C and as C++.
+ * and cue lines are in test_timings.c, and the calls of the transport clock in test_transport.c. Compiled as C and as C++.
  */
 #include <string.h>
 
