@@ -319,6 +319,70 @@ static void constants_rows(void)
     claim_row(of(1, 0, 10, 26, 0, 8, 0), PAPER_BOUND_MAX + 1);
 }
 
+static void show_clock(const int64_t *clock)
+{
+    if (clock[0] == 0)
+        printf("with nothing heard");
+    else
+        printf("at %" PRId64, clock[1]);
+}
+
+static void value_row(int64_t heard, int64_t position, int64_t value)
+{
+    int64_t clock[2] = {heard, position}, answer;
+    printf("clock ");
+    show_clock(clock);
+    printf(", value %" PRId64 ": ", value);
+    answer = plain_follow(clock, value);
+    if (answer < 0)
+        show_answer(answer);
+    else
+        printf("%" PRId64 " ticks, %" PRId64 " ms", clock[1], answer);
+    printf(", then ");
+    show_clock(clock);
+    printf("\n");
+}
+
+static void values_row(int64_t heard, int64_t position, const int64_t *values, int count)
+{
+    int64_t clock[2] = {heard, position}, passed_over;
+    printf("clock ");
+    show_clock(clock);
+    printf(", values ");
+    show_numbers(values, count);
+    passed_over = plain_follow_all(clock, values, (size_t)count);
+    printf(": %" PRId64 " passed over, then ", passed_over);
+    show_clock(clock);
+    printf("\n");
+}
+
+static void clock_rows(void)
+{
+    static const int64_t past_the_wrap[] = {-1, 8589934500, 8589934592, 2910, 8589934590, 5913};
+    static const int64_t none[] = {-1, 8589934592}, some[] = {0, 90, 180}, far_apart[] = {8589934591, 90, 4294967386};
+    value_row(0, 0, 8589934500);
+    value_row(1, 8589934500, 2910);
+    value_row(1, 8589937502, 8589934590);
+    value_row(1, 85899345920, 1);
+    value_row(1, 0, 4294967295);
+    value_row(1, 0, 4294967296);
+    value_row(1, 8589934592, 4294967296);
+    value_row(1, 8589934592, 4294967295);
+    value_row(1, 9007199254740991, 0);
+    value_row(1, 9007199254740992, 0);
+    value_row(1, 9007199254740992, 1);
+    value_row(1, 9007199254740993, 0);
+    value_row(1, -1, 0);
+    value_row(1, 0, 8589934591);
+    value_row(0, 0, 8589934591);
+    value_row(0, 0, 8589934592);
+    value_row(0, 0, -1);
+    values_row(0, 0, past_the_wrap, 6);
+    values_row(0, 0, none, 2);
+    values_row(1, -1, some, 3);
+    values_row(1, 17179869184, far_apart, 3);
+}
+
 int main(void)
 {
     calendar_rows();
@@ -326,5 +390,6 @@ int main(void)
     label_rows();
     timing_rows();
     constants_rows();
+    clock_rows();
     return 0;
 }

@@ -27,6 +27,8 @@ use Rattle.constants.specs.Least.{at, leastBelow}
 use Rattle.constants.specs.Limits.{outsideLimits}
 use Rattle.constants.specs.Answers.{difference, differenceAnswer}
 use Rattle.constants.proofs.Laws.{found-early}
+use Rattle.transport.specs.Answers.{followAnswer}
+use Rattle.transport.specs.declared.Clock.the-variants.{At}
 
 -- day z is the date with the year baseYear + y
 on :
@@ -199,3 +201,13 @@ cue-row =
 pub sunday-row : weekdayAnswer (pos 47540) ≡ value (pos 7)
 unfolding weekdayAnswer weekday
 sunday-row = refl
+
+-- ---- document 02, request Five: past the wrap; and half a wrap, which goes backwards
+
+pub wrap-row : followAnswer (At (pos 8589934500)) (pos 2910) ≡ value (record { ticks = pos 8589937502; milliseconds = pos 95443750 })
+unfolding followAnswer
+wrap-row = refl
+
+pub half-a-wrap-row : followAnswer (At (pos 8589934592)) (pos 4294967296) ≡ value (record { ticks = pos 4294967296; milliseconds = pos 47721858 })
+unfolding followAnswer
+half-a-wrap-row = refl

@@ -2,6 +2,7 @@
 // The starred rows and some others are theorems besides, in proofs/Table.antt.
 
 mod calendar_rows;
+mod clock_rows;
 mod constants_rows;
 mod instant_rows;
 mod label_rows;
@@ -14,4 +15,5 @@ fn main() {
     label_rows::run();
     timing_rows::run();
     constants_rows::run();
+    clock_rows::run();
 }
