@@ -22,7 +22,7 @@
  *   - What is pointed to is valid for the whole call and aligned for its type.
  *   - Nobody changes what is pointed to during the call; what is not const nobody reads either.
  *   - What is not const overlaps nothing else that is lent to the same call. What it holds before the call makes no
- *     difference to the answer, but for a transport clock, which is read: any two numbers will do.
+ *     difference to the answer, but for a transport clock, of which `heard` is read, and `position` where `heard` is not 0.
  */
 #ifndef OVENQUILL_H
 #define OVENQUILL_H
@@ -225,8 +225,8 @@ typedef struct ovenquill_cue {
 
 /*
  * A transport clock that is followed. `heard` is 0 where nothing has been heard yet, and any other number where something has;
- * an accepted value sets it to 1. `position` is the unwrapped position in ticks, and is not looked at while `heard` is 0. The
- * start, with nothing heard: ovenquill_clock clock = OVENQUILL_CLOCK_START;
+ * an accepted value sets it to 1. `position` is the unwrapped position in ticks; while `heard` is 0 it is not looked at, and
+ * need not be set. A clock begins with ovenquill_clock clock = OVENQUILL_CLOCK_START; and is begun anew by clock.heard = 0.
  */
 typedef struct ovenquill_clock {
     int64_t heard;
@@ -451,16 +451,18 @@ int64_t ovenquill_check_bound(int64_t a, int64_t b, int64_t d, int64_t m, int64_
  *     ovenquill_follow(&clock, 8589934592)    answers OVENQUILL_CLOCK_OUT_OF_RANGE; the clock is unchanged
  *
  * From one accepted value to the next goes the one step s with -2^32 <= s < 2^32 that leads to the new value modulo 2^33: the
- * shorter way round, and backwards where both are as long. So a stream may jump by less than 13 h 15 min 21.8 s either way; a
- * longer jump is taken for the shorter one the other way.
+ * shorter way round, and backwards where both are as long. So a stream may jump by less than 13 h 15 min 21.8 s either way. A
+ * longer jump is taken for the shortest that leads to the same value, and the whole wraps in it are lost. No position is below
+ * 0: a value from before the first one, which would lead there, is refused.
  *
- * A follower that is restarted knows nothing of earlier wraps: it takes its first value as it is, and its positions are then
- * those of the old follower less a whole number of wraps. To go on after a restart, keep both numbers and hand them in again.
+ * A follower that is restarted knows nothing of earlier wraps: it takes its first value as it is, and counts from there. To go
+ * on after a restart, keep both numbers and hand them in again before the stream has moved by more than such a jump.
  */
 
 /*
  * Follows one value. Answers the milliseconds of its position: ticks divided by OVENQUILL_TICKS_PER_MILLISECOND, rounded down.
- * `clock` is then at that position, with `heard` 1.
+ * `clock` is then at that position, with `heard` 1. The largest answer is that of OVENQUILL_LAST_CLOCK_POSITION; above
+ * OVENQUILL_LAST_POSITION milliseconds, some 11 years, ovenquill_write_position writes no label of it.
  *
  * Refusal, after which `clock` is unchanged, so that the next value is read as if this one had not come:
  *   OVENQUILL_CLOCK_OUT_OF_RANGE   value outside OVENQUILL_FIRST_CLOCK_VALUE to OVENQUILL_LAST_CLOCK_VALUE, or the position
@@ -472,8 +474,8 @@ int64_t ovenquill_follow(ovenquill_clock *clock, int64_t value);
 /*
  * Follows a list of values in order, each as ovenquill_follow does, and passes over those that it refuses. Answers how many it
  * passed over; it is never refused. `clock` is then where the last accepted value led to, with `heard` 1, and is unchanged where
- * none was accepted, as with a position handed in that is out of its range. A list may be split into batches anywhere: the
- * clock behind the last is the same, and the answers add up.
+ * none was accepted: with a position handed in that is out of its range that is every list, until the clock is begun anew. A
+ * list may be split into batches anywhere: the clock behind the last is the same, and the answers add up.
  */
 int64_t ovenquill_follow_all(ovenquill_clock *clock, const int64_t *values, size_t count);
 

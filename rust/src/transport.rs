@@ -15,11 +15,13 @@ pub const CLOCK_POSITIONS: RangeInclusive<i64> = 0..=1 << 53;
 ///
 /// It counts on, forwards and backwards and past any number of wraps. The first value is taken as it is. From one accepted
 /// value to the next goes the one step `s`, -2^32 <= `s` < 2^32, that leads to the new value modulo 2^33: the shorter way
-/// round, and backwards where both are as long. A jump of more than 13 h 15 min 21.8 s is taken for the shorter one the
-/// other way.
+/// round, and backwards where both are as long. So a stream may jump by less than 13 h 15 min 21.8 s either way. A longer
+/// jump is taken for the shortest that leads to the same value, and the whole wraps in it are lost. No position is below 0:
+/// a value from before the first one, which would lead there, is refused.
 ///
-/// A follower that is restarted knows nothing of earlier wraps: its positions are then those of the old one less a whole
-/// number of wraps. To go on after a restart, keep the position and begin with `Clock::At(position)`.
+/// A follower that is restarted knows nothing of earlier wraps: it takes its first value as it is, and counts from there. To
+/// go on after a restart, keep the position and begin with `Clock::At(position)` before the stream has moved by more than
+/// such a jump.
 ///
 /// ```
 /// use ovenquill::{Clock, ClockPosition, Refusal};
@@ -47,7 +49,8 @@ pub enum Clock {
 pub struct ClockPosition {
     /// In ticks, 90 to the millisecond.
     pub ticks: i64,
-    /// In milliseconds, rounded down.
+    /// In milliseconds, rounded down. Above the last of [`POSITIONS`](crate::POSITIONS), some 11 years, there is no label
+    /// of it.
     pub milliseconds: i64,
 }
 
