@@ -1,10 +1,11 @@
-//! Document 01 and change requests One, Three and Four in plain Rust, written from their text and sharing nothing with the library
-//! but the types of dates, fields, cues and constants. The calendar is a table of every day, built by stepping from each day to the
-//! next; instants go by `div_euclid` and `rem_euclid`, labels by `write!`, the reader of instants byte by byte, timestamps
-//! and cue lines by splitting them at their marks and blanks, and the constants by trying every n.
+//! Document 01 and change requests One, Three, Four and Five in plain Rust, written from their text and sharing nothing with the
+//! library but the types of dates, fields, cues, constants and clocks. The calendar is a table of every day, built by stepping from
+//! each day to the next; instants go by `div_euclid` and `rem_euclid`, labels by `write!`, the reader of instants byte by byte,
+//! timestamps and cue lines by splitting them at their marks and blanks, the constants by trying every n, and the clock by trying
+//! every step that may fit.
 
 use super::answer::Answer::{self, Refused, RefusedAt, Value};
-use ovenquill::{Constants, Cue, Date, Fields};
+use ovenquill::{Clock, ClockPosition, Constants, Cue, Date, Fields};
 use std::io::Write;
 use std::sync::OnceLock;
 
@@ -45,6 +46,15 @@ pub const LARGEST: Constants = Constants { a: 1023, b: 1023, d: 1048575, m: 4294
 /// The largest search end, which is also the end that document 01's rows mean where they name none.
 pub const LAST_END: i64 = 4294967295;
 pub const LAST_BOUND: i64 = 4294967294;
+
+// Change request Five's numbers
+
+/// The ticks from one wrap of the clock to the next.
+pub const WRAP: i64 = 8589934592;
+/// A step is from minus that many ticks to one tick less than that many.
+pub const HALF_WRAP: i64 = 4294967296;
+pub const LAST_CLOCK_POSITION: i64 = 9007199254740992;
+pub const TICKS_PER_MILLISECOND: i64 = 90;
 
 // The calendar
 
@@ -483,4 +493,52 @@ pub fn claim(q: Constants, bound: i64, find: fn(Constants, i64) -> Option<i64>) 
     } else {
         Refused(9)
     }
+}
+
+// The transport clock
+
+/// The step from a position to a value of the clock: of the numbers that may fit, the one that does and is within the limits.
+fn clock_step(position: i128, value: i128) -> i128 {
+    let [wrap, half] = [WRAP, HALF_WRAP].map(i128::from);
+    let without_wrap = value - position.rem_euclid(wrap);
+    let mut steps = [without_wrap - wrap, without_wrap, without_wrap + wrap]
+        .into_iter()
+        .filter(|step| (position + step - value) % wrap == 0)
+        .filter(|step| (-half..half).contains(step));
+    let step = steps.next().expect("one step fits");
+    assert_eq!(steps.next(), None, "a second step fits");
+    step
+}
+
+fn clock_position_in_range(position: i128) -> bool {
+    (0..=i128::from(LAST_CLOCK_POSITION)).contains(&position)
+}
+
+/// The position that a value leads to, from which the clock goes on; after a refusal it goes on from where it was.
+pub fn follow(clock: Clock, value: i64) -> Answer<ClockPosition> {
+    if !(0..WRAP).contains(&value) {
+        return Refused(14);
+    }
+    let reached = match clock {
+        Clock::Nothing => value.into(),
+        Clock::At(position) if !clock_position_in_range(position.into()) => return Refused(14),
+        Clock::At(position) => i128::from(position) + clock_step(position.into(), value.into()),
+    };
+    if !clock_position_in_range(reached) {
+        return Refused(14);
+    }
+    let ticks = reached as i64;
+    Value(ClockPosition { ticks, milliseconds: ticks.div_euclid(TICKS_PER_MILLISECOND) })
+}
+
+/// The clock behind a list of values, and how many of them were passed over.
+pub fn follow_all(mut clock: Clock, values: &[i64]) -> (Clock, usize) {
+    let mut passed_over = 0;
+    for &value in values {
+        match follow(clock, value) {
+            Value(position) => clock = Clock::At(position.ticks),
+            _ => passed_over += 1,
+        }
+    }
+    (clock, passed_over)
 }
