@@ -3,12 +3,13 @@
 
 mod support;
 
-use ovenquill::{raw, Constants, Cue, Date, Fields};
+use ovenquill::{raw, Clock, Constants, Cue, Date, Fields};
 use std::fmt::Debug;
 use std::ptr;
 use support::answer::Answer::{self, Refused, RefusedAt, Value};
 use support::plain::{
-    self, FIRST_DAY, FIRST_INSTANT, FIRST_YEAR, LARGEST, LAST_DAY, LAST_INSTANT, LAST_POSITION, LAST_YEAR, SECOND,
+    self, FIRST_DAY, FIRST_INSTANT, FIRST_YEAR, HALF_WRAP, LARGEST, LAST_CLOCK_POSITION, LAST_DAY, LAST_INSTANT,
+    LAST_POSITION, LAST_YEAR, SECOND, WRAP,
 };
 use support::random::Random;
 
@@ -252,6 +253,82 @@ fn searches_and_claims() {
     assert!(seen.iter().all(|&times| times > 10_000), "accepted, refused by 10, by 9 and by 11: {seen:?}");
 }
 
+/// What a clock may say that was heard: nothing yet is 0, and anything else is something.
+const HEARD: [i64; 6] = [0, 1, -1, 2, i64::MIN, i64::MAX];
+
+/// Any number, but mostly a position in the range.
+fn some_clock_position(random: &mut Random) -> i64 {
+    let inside = random.within(0, LAST_CLOCK_POSITION);
+    let any = some(random, 0, LAST_CLOCK_POSITION);
+    let near_first = random.within(-2, HALF_WRAP);
+    let near_last = random.within(LAST_CLOCK_POSITION - HALF_WRAP, LAST_CLOCK_POSITION + 2);
+    let far_outside = random.choose(&[BEFORE, i64::MIN, i64::MAX]);
+    random.choose(&[inside, inside, inside, any, any, near_first, near_last, far_outside])
+}
+
+/// The clock that two numbers are.
+fn clock_of(numbers: raw::Clock) -> Clock {
+    match numbers.heard {
+        0 => Clock::Nothing,
+        _ => Clock::At(numbers.position),
+    }
+}
+
+#[test]
+fn one_value_of_a_clock() {
+    let mut random = Random::new(50);
+    for heard in HEARD {
+        let mut seen = [0; 2];
+        for _ in 0..50_000 {
+            let numbers = raw::Clock { heard, position: some_clock_position(&mut random) };
+            let value = some(&mut random, 0, WRAP - 1);
+            let (wanted, kind) = match plain::follow(clock_of(numbers), value) {
+                Value(position) => ((position.milliseconds, raw::Clock { heard: 1, position: position.ticks }), 0),
+                refused => ((-refused_number(refused), numbers), 1),
+            };
+            let answered = lend(numbers, |clock| unsafe { raw::ovenquill_follow(clock, value) });
+            assert_eq!(answered, wanted, "{numbers:?} and {value}");
+            seen[kind] += 1;
+        }
+        assert!(seen.iter().all(|&times| times > 10_000), "heard {heard}, accepted and refused: {seen:?}");
+    }
+}
+
+#[test]
+fn a_list_of_values_of_a_clock() {
+    let mut random = Random::new(51);
+    for heard in HEARD {
+        let mut seen = [0; 3];
+        for _ in 0..30_000 {
+            let numbers = raw::Clock { heard, position: some_clock_position(&mut random) };
+            let length = random.within(0, 6) as usize;
+            let mostly_refused = random.within(0, 3) == 0;
+            let mut value = || match random.within(0, 7) {
+                0 => some(&mut random, 0, WRAP - 1),
+                _ if mostly_refused => random.choose(&[i64::MIN, -1, WRAP, i64::MAX]),
+                _ => random.within(0, WRAP - 1),
+            };
+            // Those on either side would be followed or counted if they were read.
+            let around: Vec<i64> = (0..length + 4).map(|_| value()).collect();
+            let values = &around[2..2 + length];
+            let (behind, passed_over) = plain::follow_all(clock_of(numbers), values);
+            let wanted = match behind {
+                Clock::At(position) if passed_over < length => raw::Clock { heard: 1, position },
+                _ => numbers,
+            };
+            let (among_others, alone) = (around.clone(), values.to_vec());
+            for lent in [&among_others[2..2 + length], &alone] {
+                let answered =
+                    lend(numbers, |clock| unsafe { raw::ovenquill_follow_all(clock, lent.as_ptr(), lent.len()) });
+                assert_eq!(answered, (passed_over as i64, wanted), "{numbers:?} and {values:?}");
+            }
+            assert_eq!((&among_others[..], &alone[..]), (&around[..], values), "a value changed");
+            seen[if passed_over == length { 2 } else { usize::from(passed_over > 0) }] += 1;
+        }
+        assert!(seen.iter().all(|&times| times > 3_000), "heard {heard}, all, some and none accepted: {seen:?}");
+    }
+}
+
 #[test]
 fn writers() {
     for (number, length, instant_returns, position_returns) in [
@@ -287,4 +364,11 @@ fn no_slice_at_all() {
     let indexed =
         lend(BEFORE, |place| unsafe { raw::ovenquill_index_days(ptr::null(), 0, days.as_mut_ptr(), 1, place) });
     assert_eq!((indexed, days), ((-12, BEFORE), [7]));
+    for heard in HEARD {
+        for position in [0, WRAP, LAST_CLOCK_POSITION, BEFORE] {
+            let numbers = raw::Clock { heard, position };
+            let followed = lend(numbers, |clock| unsafe { raw::ovenquill_follow_all(clock, ptr::null(), 0) });
+            assert_eq!(followed, (0, numbers));
+        }
+    }
 }
