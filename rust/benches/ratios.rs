@@ -12,12 +12,13 @@ mod random;
 mod rivals;
 
 use measure::call::{
-    CueReader, Eight, EightTo, FourTo, Index, One, OneTo, PositionReader, Reader, SevenTo, Text, Three, ThreeTo, Two,
-    Waiting, Writer, MOST_BLANKS,
+    CueReader, Eight, EightTo, Follower, FourTo, Index, ListFollower, One, OneTo, PositionReader, Reader, SevenTo,
+    Text, Three, ThreeTo, Two, Waiting, Writer, MOST_BLANKS,
 };
 use measure::{best_times, line, percentile, shown, Inputs, PARTS, ROUNDS};
 use ovenquill::{
-    raw, Constants, Date, Fields, CLAIM_BOUNDS, DAYS, INSTANTS, INSTANT_LABEL_BYTES, POSITIONS, SEARCH_ENDS, YEARS,
+    raw, Constants, Date, Fields, CLAIM_BOUNDS, CLOCK_POSITIONS, CLOCK_VALUES, DAYS, INSTANTS, INSTANT_LABEL_BYTES,
+    POSITIONS, SEARCH_ENDS, YEARS,
 };
 use random::Random;
 use rivals::calendar::{BY_DIVISIONS, BY_SHIFTS};
@@ -26,10 +27,15 @@ use rivals::chrono;
 use rivals::labels::{BY_BYTES, BY_CENTURY, BY_WORDS};
 #[cfg(lengths)]
 use rivals::lengths;
-use rivals::{calendar, constants, instants, labels};
+use rivals::transport::{BY_COMPARES, BY_REMAINDER, BY_VALUE_BEFORE};
+use rivals::{calendar, constants, instants, labels, transport};
 
 /// The inputs of most lines.
 const INPUTS: usize = 131072;
+/// The length of a long list.
+const MILLION: usize = 1_000_000;
+/// Every part of a line on a long list is the same list.
+const LONG_PARTS: usize = 5;
 
 fn main() {
     println!("{ROUNDS} rounds, ours and the rival in turn on each part of the inputs.");
@@ -44,6 +50,7 @@ fn main() {
     timing_lines();
     index_lines();
     constants_lines();
+    transport_lines();
     println!();
     constants_times();
     #[cfg(lengths)]
@@ -430,12 +437,10 @@ fn timing_lines() {
 // The recording index
 
 fn index_lines() {
-    const MILLION: usize = 1_000_000;
     let mut random = Random::new(103);
     let long: Vec<i64> = (0..MILLION).map(|_| random.within(*INSTANTS.start(), *INSTANTS.end())).collect();
     let short: Vec<Vec<i64>> = long[..INPUTS].chunks(1024).map(<[i64]>::to_vec).collect();
-    // Every part of the long one is the same list.
-    for (list, parts) in [(vec![long; 5], 5), (short, PARTS)] {
+    for (list, parts) in [(vec![long; LONG_PARTS], LONG_PARTS), (short, PARTS)] {
         let length = list[0].len();
         line::<Index>(
             &format!("index of {length}, for each instant"),
@@ -444,6 +449,58 @@ fn index_lines() {
             &[("loops without an early exit", instants::index_days)],
         );
     }
+}
+
+// The transport clock
+
+/// The ticks of a frame, where 30 frames take 1.001 seconds.
+const FRAME: i64 = 3003;
+
+/// Values a frame apart, of which one in so many is refused, at random.
+fn frames(random: &mut Random, start: i64, one_refused_in: i64) -> Vec<i64> {
+    let wrap = CLOCK_VALUES.end() + 1;
+    let value = |frame| match ((start + frame * FRAME) % wrap, random.within(1, one_refused_in)) {
+        (value, 1) => random.choose(&[value - wrap, value + wrap]),
+        (value, _) => value,
+    };
+    (1..=MILLION as i64).map(value).collect()
+}
+
+fn transport_lines() {
+    let random = &mut Random::new(109);
+    // In the middle of the range, where no step leads out of it; the clock wraps at half the frames.
+    let start = raw::Clock { heard: 1, position: CLOCK_POSITIONS.end() / 2 - MILLION as i64 / 2 * FRAME };
+    let any_steps = (0..MILLION).map(|_| random.within(*CLOCK_VALUES.start(), *CLOCK_VALUES.end())).collect();
+    for (what, values) in [
+        ("a frame apart, 1 in 1000 refused", frames(random, start.position, 1000)),
+        ("a frame apart, 1 in 8 refused", frames(random, start.position, 8)),
+        ("any steps", any_steps),
+    ] {
+        line::<ListFollower>(
+            &format!("follow {MILLION} clock values, {what}, for each value"),
+            &Inputs { list: &vec![(start, values); LONG_PARTS], parts: LONG_PARTS, units: MILLION },
+            raw::ovenquill_follow_all,
+            &[
+                (RUST, transport::follow_all::<BY_REMAINDER>),
+                (BY_HAND, transport::follow_all::<BY_COMPARES>),
+                (STEPS, transport::follow_all::<BY_VALUE_BEFORE>),
+            ],
+        );
+    }
+    let positions = numbers(random, CLOCK_POSITIONS);
+    let values = numbers(random, CLOCK_VALUES);
+    let one_value: Vec<(raw::Clock, i64)> =
+        positions.iter().zip(values).map(|(&position, value)| (raw::Clock { heard: 1, position }, value)).collect();
+    line::<Follower>(
+        "follow a clock value",
+        &Inputs::of(&one_value),
+        raw::ovenquill_follow,
+        &[
+            (RUST, transport::follow::<BY_REMAINDER>),
+            (BY_HAND, transport::follow::<BY_COMPARES>),
+            (STEPS, transport::follow::<BY_VALUE_BEFORE>),
+        ],
+    );
 }
 
 // The two ways to a month's length

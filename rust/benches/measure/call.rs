@@ -1,5 +1,6 @@
 //! The shapes of the C calls, so that a line can be measured and compared whatever its call takes and writes.
 
+use ovenquill::raw::Clock;
 use ovenquill::{Cue, Date, Fields, INSTANT_LABEL_BYTES, POSITION_LABEL_BYTES};
 use std::fmt::Debug;
 
@@ -285,5 +286,49 @@ impl Call for Index {
 
     fn sum((days, _): &(Vec<i32>, i64)) -> i64 {
         days[days.len() / 2].into()
+    }
+}
+
+pub type Follower = unsafe extern "C" fn(*mut Clock, i64) -> i64;
+
+impl Call for Follower {
+    /// The clock before the call, to which each call puts it back, and the value.
+    type Input = (Clock, i64);
+    type Lent = Clock;
+
+    fn cleared(&(clock, _): &Self::Input) -> Clock {
+        clock
+    }
+
+    fn call(self, &(clock, value): &Self::Input, lent: &mut Clock) -> i64 {
+        *lent = clock;
+        // SAFETY: the clock is ours to lend.
+        unsafe { self(lent, value) }
+    }
+
+    fn sum(lent: &Clock) -> i64 {
+        lent.position
+    }
+}
+
+pub type ListFollower = unsafe extern "C" fn(*mut Clock, *const i64, usize) -> i64;
+
+impl Call for ListFollower {
+    /// The clock before the call, to which each call puts it back, and the values.
+    type Input = (Clock, Vec<i64>);
+    type Lent = Clock;
+
+    fn cleared(&(clock, _): &Self::Input) -> Clock {
+        clock
+    }
+
+    fn call(self, (clock, values): &Self::Input, lent: &mut Clock) -> i64 {
+        *lent = *clock;
+        // SAFETY: the pointer and the length are those of the list, and the clock is ours to lend.
+        unsafe { self(lent, values.as_ptr(), values.len()) }
+    }
+
+    fn sum(lent: &Clock) -> i64 {
+        lent.position
     }
 }

@@ -9,6 +9,7 @@ pub mod instants;
 pub mod labels;
 #[cfg(lengths)]
 pub mod lengths;
+pub mod transport;
 
 /// What a rival returns that writes its answer to a place: 0, or the refusal negated, and then the place is unchanged.
 #[inline(always)]
