@@ -15,7 +15,7 @@
 //! | the clock of a transport stream | [`Clock`], [`ClockPosition`] | [`Clock::follow`], [`Clock::follow_all`] |
 //!
 //! Every call takes any numbers and any slices. What it does not take it answers with a [`Refusal`], which has a number and
-//! words; a refused call changes nothing that was lent to it. A count of days is counted from 1970-01-01, an instant in
+//! words ([`Clock::follow_all`] passes over it, and counts); a refused call changes nothing that was lent to it. A count of days is counted from 1970-01-01, an instant in
 //! milliseconds from 1970-01-01 00:00, both negative before. There are no time zones, no leap seconds and no locale.
 //!
 //! ```
@@ -58,5 +58,5 @@ pub use labels::{
     InstantLabel, PositionLabel, INSTANT_LABEL_BYTES, POSITIONS, POSITION_LABEL_BYTES,
 };
 pub use refusal::Refusal;
-pub use transport::{Clock, ClockPosition, CLOCK_POSITIONS, CLOCK_VALUES};
+pub use transport::{Clock, ClockPosition, CLOCK_POSITIONS, CLOCK_TICKS_PER_MILLISECOND, CLOCK_VALUES};
 pub use weekday::{weekday, Weekday};

@@ -10,18 +10,21 @@ pub const CLOCK_VALUES: RangeInclusive<i64> = 0..=(1 << 33) - 1;
 /// The unwrapped positions that are followed to, in ticks.
 pub const CLOCK_POSITIONS: RangeInclusive<i64> = 0..=1 << 53;
 
+/// The ticks of a millisecond.
+pub const CLOCK_TICKS_PER_MILLISECOND: i64 = 90;
+
 /// A follower of the clock of a transport stream, which counts 90,000 ticks in a second and begins again at 0 after
 /// 26 h 30 min 43.7 s: the base of a program clock reference (PCR), or the time stamps of pictures and sound (PTS, DTS).
 ///
 /// It counts on, forwards and backwards and past any number of wraps. The first value is taken as it is. From one accepted
 /// value to the next goes the one step `s`, -2^32 <= `s` < 2^32, that leads to the new value modulo 2^33: the shorter way
-/// round, and backwards where both are as long. So a stream may jump by less than 13 h 15 min 21.8 s either way. A longer
-/// jump is taken for the shortest that leads to the same value, and the whole wraps in it are lost. No position is below 0:
-/// a value from before the first one, which would lead there, is refused.
+/// round, and backwards where both are as long. So a stream may jump by less than half a wrap, 13 h 15 min 21.8 s, either
+/// way. A longer jump is taken for the shortest that leads to the same value, and the whole wraps in it are lost. No
+/// position is below 0: a value from before the first one, which would lead there, is refused.
 ///
 /// A follower that is restarted knows nothing of earlier wraps: it takes its first value as it is, and counts from there. To
-/// go on after a restart, keep the position and begin with `Clock::At(position)` before the stream has moved by more than
-/// such a jump.
+/// go on after a restart, keep the clock, or its ticks and begin with `Clock::At(ticks)`, and hand it the next value before
+/// the stream has moved by half a wrap.
 ///
 /// ```
 /// use ovenquill::{Clock, ClockPosition, Refusal};
@@ -44,13 +47,13 @@ pub enum Clock {
     At(i64),
 }
 
-/// The unwrapped position that a value stands for.
+/// The unwrapped position that a value stands for. The order is that of the ticks.
 #[derive(Clone, Copy, Debug, PartialEq, Eq, PartialOrd, Ord, Hash)]
 pub struct ClockPosition {
-    /// In ticks, 90 to the millisecond.
+    /// In ticks, [`CLOCK_TICKS_PER_MILLISECOND`] to the millisecond.
     pub ticks: i64,
-    /// In milliseconds, rounded down. Above the last of [`POSITIONS`](crate::POSITIONS), some 11 years, there is no label
-    /// of it.
+    /// In milliseconds, rounded down, as [`position_label`](crate::position_label) takes it; above the last of
+    /// [`POSITIONS`](crate::POSITIONS), after some 11 years, it has no label.
     pub milliseconds: i64,
 }
 
@@ -83,7 +86,8 @@ impl Clock {
     /// Follows a list of values in order, each as [`follow`](Clock::follow) does, and passes over those that it refuses.
     /// Answers how many it passed over.
     ///
-    /// A list may be split into batches anywhere: the clock behind the last is the same, and the answers add up.
+    /// From a position outside [`CLOCK_POSITIONS`] every value is passed over, and the clock stays. A list may be split into
+    /// batches anywhere: the clock behind the last is the same, and the answers add up.
     ///
     /// ```
     /// use ovenquill::Clock;

@@ -4,7 +4,7 @@
 
 mod support;
 
-use ovenquill::{Clock, ClockPosition, CLOCK_POSITIONS, CLOCK_VALUES};
+use ovenquill::{Clock, ClockPosition, CLOCK_POSITIONS, CLOCK_TICKS_PER_MILLISECOND, CLOCK_VALUES};
 use support::answer::answer;
 use support::answer::Answer::{self, Refused, Value};
 use support::plain::{self, HALF_WRAP, LAST_CLOCK_POSITION, TICKS_PER_MILLISECOND, WRAP};
@@ -54,6 +54,7 @@ fn numbers_of_change_request_five() {
     assert_eq!((WRAP, HALF_WRAP, LAST_CLOCK_POSITION), (1 << 33, 1 << 32, 1 << 53));
     assert_eq!(CLOCK_VALUES, 0..=WRAP - 1);
     assert_eq!(CLOCK_POSITIONS, 0..=LAST_CLOCK_POSITION);
+    assert_eq!(CLOCK_TICKS_PER_MILLISECOND, TICKS_PER_MILLISECOND);
     // 26 h 30 min 43.7 s, in tenths of a second of a clock of 90 kHz.
     assert_eq!(WRAP / 9000, ((26 * 60 + 30) * 60 + 43) * 10 + 7);
 }

@@ -14,12 +14,12 @@ use steps::WRAP;
 mod steps;
 
 ghost use mathlib.Core.Path.{_≡_};
-ghost use Prim.Native.Nat.{_/_, _≤_, _^_};
+ghost use Prim.Native.Nat.{_/_, _≤_, _<_, _^_};
 ghost use lib.IntN.{pos};
 ghost use Rattle.refusal.specs.Outcome.{value, refused};
-ghost use Rattle.transport.specs.Wraps.{positionAt};
+ghost use Rattle.transport.specs.Wraps.{wrap, positionAt};
 ghost use Rattle.transport.specs.Answers.{positionOutcome, followAnswer, clockAfter, followAllAnswer};
-ghost use Rattle.transport.specs.declared.Clock.the-variants.{Nothing, At};
+ghost use Rattle.transport.specs.declared.Clock.the-variants.{At};
 
 pub enum Clock {
     // nothing heard yet
@@ -54,40 +54,30 @@ pub fn follow(clock: Clock, value: i64) -> Followed
     ensures answer { λ r. ⌜ positionOutcome (r .answer) ≡ followAnswer clock value ⌝ }
     ensures clock { λ r. ⌜ r .clock ≡ clockAfter clock value ⌝ }
 {
-    match clock {
-        Clock::Nothing => first(value),
-        Clock::At(position) => next(position, value),
-    }
-}
-
-// Where nothing has been heard yet.
-fn first(heard: i64) -> Followed
-    ensures answer { λ r. ⌜ positionOutcome (r .answer) ≡ followAnswer Nothing heard ⌝ }
-    ensures clock { λ r. ⌜ r .clock ≡ clockAfter Nothing heard ⌝ }
-{
-    if numbers::outside(0, LAST_VALUE, heard) {
-        return kept(Clock::Nothing);
-    }
-    accepted(heard as u64)
-}
-
-// From a position on.
-fn next(position: i64, value: i64) -> Followed
-    ensures answer { λ r. ⌜ positionOutcome (r .answer) ≡ followAnswer (At position) value ⌝ }
-    ensures clock { λ r. ⌜ r .clock ≡ clockAfter (At position) value ⌝ }
-{
     if numbers::outside(0, LAST_VALUE, value) {
-        return kept(Clock::At(position));
+        return kept(clock);
     }
+    match clock {
+        Clock::Nothing => accepted(value as u64),
+        Clock::At(position) => next(position, value as u64),
+    }
+}
+
+// From a position on. The test that mostly passes comes with its answer first.
+fn next(position: i64, value: u64) -> Followed
+    requires { ⌜ value < wrap ⌝ }
+    ensures answer { λ r. ⌜ positionOutcome (r .answer) ≡ followAnswer (At position) (pos value) ⌝ }
+    ensures clock { λ r. ⌜ r .clock ≡ clockAfter (At position) (pos value) ⌝ }
+{
     if numbers::outside(0, LAST_POSITION, position) {
         return kept(Clock::At(position));
     }
     let from = position as u64;
-    let ahead = steps::ahead(from, from % WRAP, value as u64);
-    if !steps::lands(ahead) {
-        return kept(Clock::At(position));
+    let ahead = steps::ahead(from, from % WRAP, value);
+    if steps::lands(ahead) {
+        return accepted(ahead - HALF);
     }
-    accepted(ahead - HALF)
+    kept(Clock::At(position))
 }
 
 // A refused value: the clock as it was.

@@ -3,12 +3,11 @@
 use super::returned;
 use core::slice;
 use ovenquill::raw::Clock;
-use ovenquill::{CLOCK_POSITIONS, CLOCK_VALUES};
+use ovenquill::{CLOCK_POSITIONS, CLOCK_TICKS_PER_MILLISECOND, CLOCK_VALUES};
 
 const WRAP: i64 = *CLOCK_VALUES.end() + 1;
 const HALF_WRAP: i64 = WRAP / 2;
 const LAST: i64 = *CLOCK_POSITIONS.end();
-const TICKS_PER_MILLISECOND: u64 = 90;
 
 /// The three ways: the step by a signed remainder, or by the rest of the position and two compares, or unsigned and from the
 /// value before, as the library has it.
@@ -96,7 +95,7 @@ pub unsafe extern "C" fn follow<const WAY: u8>(clock: *mut Clock, value: i64) ->
     };
     returned(next.map(|position| {
         clock.write(Clock { heard: 1, position });
-        (position as u64 / TICKS_PER_MILLISECOND) as i64
+        (position as u64 / CLOCK_TICKS_PER_MILLISECOND as u64) as i64
     }))
 }
 
