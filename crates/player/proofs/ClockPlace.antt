@@ -1,5 +1,5 @@
 -- What a batch leaves in a clock's two numbers is what its values leave there one behind the other.
-use Prim.Native.Nat.{ℕ, suc, _+_, _≤_}
+use Prim.Native.Nat.{ℕ, suc, _+_}
 use mathlib.Core.Path.{_≡_, refl, sym, ap, _∙_}
 use mathlib.Core.Bool.{Bool, true, false, cond}
 use mathlib.Core.List.{List, [], _∷_}
@@ -9,13 +9,12 @@ use lib.IntN.{ℤ, pos, negsuc}
 use lib.ListN.{length}
 use borrow.Author.Tests.{eq-eqb, ne-eqb, eqb-true, eqb-false}
 use Rattle.refusal.specs.Outcome.{Outcome, value, refused, refusedAt, afterCall}
-use Rattle.numbers.specs.Range.{eqZ}
 use Rattle.transport.specs.Answers.{followAnswer, clockAfter, ifRefused, soFar, followAllAnswer}
 use Rattle.transport.specs.declared.Batch.{Batch}
 use Rattle.transport.specs.declared.Clock.{Clock}
 use Rattle.transport.specs.declared.Clock.the-variants.{Nothing, At}
 use Rattle.transport.specs.declared.Position.{Position}
-use Rattle.transport.proofs.Laws.{goes-on-from, first-and-rest, skipped-at-most, all-passed-over, stays-heard}
+use Rattle.transport.proofs.Laws.{first-and-rest, skipped-at-most, all-passed-over, stays-heard}
 use Rattle.player.specs.Returned.{clockFrom, clockOf, clockAfterValue, clockAfterValues}
 use Rattle.player.specs.ClockPlaces.{heardAt, afterBatch}
 

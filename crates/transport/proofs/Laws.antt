@@ -1,7 +1,7 @@
 -- The laws of the follower: its answers by the step, the true positions given back, refused values, batches, milliseconds.
 use Prim.Native.Nat.{ℕ, _+_, _≤_}
 use mathlib.Core.Path.{_≡_, refl, sym, ap, ap₂, _∙_}
-use mathlib.Core.Bool.{Bool, true, false, cond}
+use mathlib.Core.Bool.{false, cond}
 use mathlib.Core.List.{List, [], _∷_, _++_, map, foldl, foldl-append}
 use native.Mathlib.Nat.{mod-eq-of-lt}
 use native.Mathlib.Omega.{arith}
@@ -21,7 +21,6 @@ use Rattle.numbers.proofs.Quotients.{quotient-monotone}
 use Rattle.transport.specs.Wraps.{wrap, lastValue, lastPosition, Step, reached, positionAt}
 use Rattle.transport.specs.Answers.{badClock, notFollowed, followAnswer, clockAfter, ifRefused, soFar, oneMore, followAllAnswer}
 use Rattle.transport.specs.Runs.{answersTo, Onward, RunFrom, done, more, shownAt}
-use Rattle.transport.specs.declared.Batch.{Batch}
 use Rattle.transport.specs.declared.Clock.{Clock}
 use Rattle.transport.specs.declared.Clock.the-variants.{Nothing, At}
 use Rattle.transport.specs.declared.Position.{Position}

@@ -1,7 +1,7 @@
 -- The step to a value: there is one, and one only.
 use Prim.Native.Nat.{ℕ, zero, suc, _+_, _-_, _%_, _≤_, _<_}
 use mathlib.Core.Path.{_≡_, refl, sym, ap, ap₂, _∙_}
-use mathlib.Core.Bool.{Bool, true, false}
+use mathlib.Core.Bool.{true, false}
 use native.Mathlib.Nat.{mod-eq-of-lt}
 use native.Mathlib.Omega.{arith}
 use lib.Dec.{lit<}
@@ -9,7 +9,6 @@ use lib.IntN.{ℤ, pos, negsuc, negℤ, subℕ, _+ℤ_, _-ℤ_}
 use lib.Signed.{ltZ}
 use borrow.Author.Tests.{ltb-true, ltb-false, lt-ltb, le-ltb}
 use Rattle.numbers.specs.Floor.{floorRemainder}
-use Rattle.numbers.proofs.Bools.{no-both}
 use Rattle.numbers.proofs.Floor.{remainder-below}
 use Rattle.numbers.proofs.Integers.{on-sub, sub-neg, sub-pos}
 use Rattle.numbers.proofs.Quotients.{remainder-add}

@@ -1,7 +1,7 @@
 -- The whole answer of each call, and the clock that goes on from there: document 02, request Five.
 use Prim.Native.Nat.{ℕ, _+_}
 use mathlib.Core.Bool.{Bool, false, cond, _||_}
-use mathlib.Core.List.{List, [], _∷_, foldl}
+use mathlib.Core.List.{List, foldl}
 use lib.IntN.{ℤ, pos}
 use Rattle.refusal.specs.Numbers.{refusalNumber}
 use Rattle.refusal.specs.Outcome.{Outcome, value, refused, refusedAt, afterCall}

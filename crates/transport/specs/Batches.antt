@@ -1,7 +1,7 @@
 -- What the contracts of the two loops of a batch say.
 use Prim.Native.Nat.{ℕ, _≤_, _<_}
 use mathlib.Core.Path.{_≡_}
-use mathlib.Core.Bool.{Bool, false}
+use mathlib.Core.Bool.{false}
 use mathlib.Core.List.{List, foldl}
 use lib.IntN.{ℤ, pos}
 use lib.ListN.{length, getD, drop}

@@ -1,7 +1,7 @@
 -- The clock of a transport stream, 33 bits wide, and the step from a position to the next value: document 02, request Five.
 use Prim.Native.Nat.{ℕ, _-_, _^_}
 use mathlib.Core.Path.{_≡_}
-use mathlib.Core.Bool.{Bool, true, false}
+use mathlib.Core.Bool.{true, false}
 use lib.IntN.{ℤ, pos, negℤ, _+ℤ_, _-ℤ_}
 use lib.Signed.{ltZ}
 use Rattle.numbers.specs.Floor.{floorQuotient, floorRemainder}

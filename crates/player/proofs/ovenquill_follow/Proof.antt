@@ -1,5 +1,5 @@
 -- What is returned, and what the clock's numbers are then, is what the call answered.
-use mathlib.Core.Path.{_≡_, ap₂, _∙_}
+use mathlib.Core.Path.{ap₂, _∙_}
 use mathlib.Core.List.{[], _∷_}
 use lib.IntN.{pos}
 use lib.ListN.{getD}
@@ -9,7 +9,7 @@ use mir.Val.{SFits}
 use denote.Ref.{now}
 use borrow.Author.Needs.{needs}
 use Rattle.transport.specs.Answers.{followAnswer}
-use Rattle.player.specs.Returned.{returnedMilliseconds, clockFrom, clockOf, clockAfterValue}
+use Rattle.player.specs.Returned.{returnedMilliseconds, clockFrom, clockAfterValue}
 use Rattle.player.proofs.Answered.{as-read, returned-and-placed}
 use Rattle.player.proofs.ovenquill_follow.Statement.{statement}
 use Rattle.player.proofs.ovenquill_follow.Tie as tie

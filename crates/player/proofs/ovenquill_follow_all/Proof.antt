@@ -1,6 +1,5 @@
 -- What is returned, and what the clock's numbers are then, is what the call answered; at most all values are passed over, and these fit.
-use Prim.Native.Nat.{_≤_}
-use mathlib.Core.Path.{_≡_, ap, ap₂, _∙_}
+use mathlib.Core.Path.{ap, ap₂, _∙_}
 use native.Mathlib.Omega.{arith}
 use lib.IntN.{pos}
 use lib.ListN.{length, getD}

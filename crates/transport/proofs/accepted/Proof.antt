@@ -1,5 +1,4 @@
 -- Both numbers fit, being at most 2^53.
-use Prim.Native.Nat.{_/_}
 use mathlib.Core.Path.{ap, ap₂, _∙_}
 use native.Mathlib.Omega.{arith}
 use lib.IntN.{pos}

@@ -1,5 +1,5 @@
 -- The batch from `i` on, at the position, is the batch from the start on; `last` is what the position leaves.
-use Prim.Native.Nat.{ℕ, _+_, _-_, _%_, _≤_, _<_, _^_}
+use Prim.Native.Nat.{ℕ, _-_, _%_, _≤_, _<_, _^_}
 use mathlib.Core.Bool.{false}
 use mathlib.Core.Logic.{⊎-elim}
 use mathlib.Core.Path.{_≡_, refl, sym, ap, _∙_}
