@@ -12,19 +12,19 @@ ghost use Rattle.transport.specs.Wraps.{wrap, half, lastPosition, leadTo
 ghost use Rattle.transport.specs.Batches.{goingOn, FirstTaken};
 ghost use Rattle.transport.specs.declared.Clock.the-variants.{At};
 
-// The values that the clock has, and half of them.
+// How many values the clock has, and half of that.
 pub const WRAP: u64 = 1 << 33;
 
 pub const HALF: u64 = 1 << 32;
 
-pub const LAST_VALUE: i64 = 8589934591;
+pub const LAST_VALUE: i64 = (WRAP - 1) as i64;
 
-pub const LAST_POSITION: i64 = 9007199254740992;
+pub const LAST_POSITION: i64 = 1 << 53;
 
 // HALF more than the last position.
-const LAST_AHEAD: u64 = 9007203549708288;
+const LAST_AHEAD: u64 = LAST_POSITION as u64 + HALF;
 
-// The position that a value leads to, and HALF more; `last` is what the clock had there.
+// The position that a value leads to, and HALF more; `last` is the value of the position that it leads from.
 pub fn ahead(position: u64, last: u64, value: u64) -> u64
     requires { ⌜ (position ≤ 2 ^ 53) × ((last ≡ position % wrap) × (value < wrap)) ⌝ }
     ensures { λ r. ⌜ r ≡ position + leadTo (pos position) (pos value) ⌝ }
@@ -32,7 +32,7 @@ pub fn ahead(position: u64, last: u64, value: u64) -> u64
     position + (value + (WRAP + HALF) - last) % WRAP
 }
 
-// Whether that position lies in the range.
+// Whether the position that is HALF less lies in the range.
 pub fn lands(ahead: u64) -> bool
     ensures { λ r. ⌜ r ≡ not (outside (pos 0) lastPosition (pos ahead -ℤ pos half)) ⌝ }
 {
