@@ -8,7 +8,6 @@ use lib.IntN.{ℤ, pos, natAbs, negℤ}
 use lib.Dec.{eqb, ltb}
 use lib.ListN.{length}
 use lib.Signed.{nonNeg, ltZ}
-use borrow.Author.Tests.{eq-eqb}
 use Rattle.refusal.specs.Outcome.{Outcome, value, refused, refusedAt, andThen, mapValue, afterCall}
 use Rattle.numbers.specs.Range.{outside}
 use Rattle.numbers.proofs.Between.{natural-within}
@@ -32,16 +31,16 @@ use Rattle.labels.specs.declared.webvtt.Cue.{Cue}
 use Rattle.constants.specs.Least.{Found, at, none, leastBelow}
 use Rattle.constants.specs.Limits.{lastEnd, outsideLimits, endOutside, boundOutside}
 use Rattle.constants.specs.Answers.{difference, differenceAnswer, claimed, boundAnswer}
-use Rattle.transport.specs.Wraps.{lastValue, reached, millisecondsOf}
+use Rattle.transport.specs.Wraps.{reached, millisecondsOf}
 use Rattle.transport.specs.Wraps as T
-use Rattle.transport.specs.Answers.{badClock, notFollowed, followAnswer, clockAfter, followAllAnswer}
+use Rattle.transport.specs.Answers.{notFollowed, followAnswer, clockAfter, followAllAnswer}
 use Rattle.transport.specs.declared.Clock.{Clock}
 use Rattle.transport.specs.declared.Clock.the-variants.{At}
 use Rattle.transport.specs.declared.Position.{Position}
+use Rattle.transport.proofs.Answered.{reached-inside}
 use Rattle.transport.proofs.Laws.{first-and-rest}
-use Rattle.player.specs.Returned.{returned, returnedCount, returnedFlag, returnedDone, returnedFound, returnedMilliseconds, clockOf, clockAfterValue, clockAfterValues, done, Tells}
-use Rattle.player.specs.ClockPlaces.{heardAt}
-use Rattle.player.proofs.ClockPlace.{batch-place}
+use Rattle.player.specs.Returned.{returned, returnedCount, returnedFlag, returnedDone, returnedFound, returnedMilliseconds, clockOf, clockNumbers, clockAfterValue, clockAfterValues, done, Tells}
+use Rattle.player.proofs.ClockPlace.{all-over, batch-place}
 
 -- what is told on either side of a test
 by-test :
@@ -223,9 +222,7 @@ pub follow-tells : (clock : Clock) (heard : ℤ) → Tells returnedMilliseconds 
 unfolding followAnswer
 follow-tells clock heard =
     by-test returnedMilliseconds (notFollowed clock heard) _ _ (λ _. told refl) (λ h.
-    let behind = or-no (outside (pos 0) lastValue heard) _ h .1 in
-    let inside = or-no (badClock clock) (outside (pos 0) T.lastPosition (reached clock heard)) behind .1 in
-    told (ap (λ z. nonNeg (millisecondsOf z)) (natural-within 0 T.lastPosition (reached clock heard) inside .is)))
+    told (ap (λ z. nonNeg (millisecondsOf z)) (natural-within 0 T.lastPosition (reached clock heard) (reached-inside clock heard h) .is)))
 
 -- the two numbers stand for the clock, after a value and after a list of them
 pub numbers-follow : (numbers : List ℤ) (heard : ℤ) → clockOf (clockAfterValue numbers heard) ≡ clockAfter (clockOf numbers) heard
@@ -233,7 +230,7 @@ unfolding clockAfterValue clockAfter
 numbers-follow numbers heard = go (followAnswer (clockOf numbers) heard)
   where
     go :
-        (answer : Outcome Position) → clockOf (afterCall answer (λ p. pos 1 ∷ p .ticks ∷ []) numbers)
+        (answer : Outcome Position) → clockOf (afterCall answer (λ p. clockNumbers (p .ticks)) numbers)
         ≡ afterCall answer (λ p. At (p .ticks)) (clockOf numbers)
     go (value p) = refl
     go (refused number) = refl
@@ -250,4 +247,4 @@ numbers-follow-all numbers (heard ∷ values) =
 pub none-accepted :
     (numbers values : List ℤ) → followAllAnswer (clockOf numbers) values .skipped ≡ length values → clockAfterValues numbers values ≡ numbers
 none-accepted numbers values e =
-    sym (batch-place numbers values) ∙ ap (λ t. cond t numbers (heardAt (followAllAnswer (clockOf numbers) values .clock) numbers)) (eq-eqb _ _ e)
+    sym (batch-place numbers values) ∙ all-over (length values) (followAllAnswer (clockOf numbers) values) numbers e

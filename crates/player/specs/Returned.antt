@@ -65,8 +65,11 @@ abbrev pub clockOf : (numbers : List ℤ) → Clock
 clockOf numbers = clockFrom (getD numbers 0 (pos 0)) (getD numbers 1 (pos 0))
 
 -- what they are after a value: 1 and the position of an accepted one, and else what they were
-unfoldable pub clockAfterValue : (numbers : List ℤ) (heard : ℤ) → List ℤ
-clockAfterValue numbers heard = afterCall (followAnswer (clockOf numbers) heard) (λ p. pos 1 ∷ p .ticks ∷ []) numbers
+abbrev pub clockNumbers : (position : ℤ) → List ℤ
+clockNumbers position = pos 1 ∷ position ∷ []
+
+unfoldable pub clockAfterValue : (numbers : List ℤ) (received : ℤ) → List ℤ
+clockAfterValue numbers received = afterCall (followAnswer (clockOf numbers) received) (λ p. clockNumbers (p .ticks)) numbers
 
 -- after a list of values, one behind the other
 unfoldable pub clockAfterValues : (numbers values : List ℤ) → List ℤ

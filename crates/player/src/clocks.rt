@@ -6,11 +6,10 @@ use transport::Clock;
 use transport::PositionAnswer;
 ghost use Prim.Native.Nat.{_<_, _^_};
 ghost use mathlib.Core.Path.{_≡_};
-ghost use mathlib.Core.List.{[], _∷_};
 ghost use lib.IntN.{pos};
 ghost use Rattle.refusal.specs.Outcome.{afterCall};
 ghost use Rattle.transport.specs.Answers.{positionOutcome};
-ghost use Rattle.player.specs.Returned.{returnedMilliseconds, clockFrom};
+ghost use Rattle.player.specs.Returned.{returnedMilliseconds, clockFrom, clockNumbers};
 ghost use Rattle.player.specs.ClockPlaces.{afterBatch};
 
 pub fn from_numbers(heard: i64, position: i64) -> Clock
@@ -24,7 +23,7 @@ pub fn from_numbers(heard: i64, position: i64) -> Clock
 
 pub fn followed(answer: PositionAnswer, place: &mut [i64; 2]) -> i64
     ensures answer { λ r. ⌜ r ≡ returnedMilliseconds (positionOutcome answer) ⌝ }
-    ensures place { λ r. ⌜ now (place .exit) ≡ afterCall (positionOutcome answer) (λ p. pos 1 ∷ p .ticks ∷ []) (now (place .entry)) ⌝ }
+    ensures place { λ r. ⌜ now (place .exit) ≡ afterCall (positionOutcome answer) (λ p. clockNumbers (p .ticks)) (now (place .entry)) ⌝ }
 {
     match answer {
         PositionAnswer::Value(p) => {

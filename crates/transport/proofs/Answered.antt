@@ -1,5 +1,5 @@
 -- What the tests of the code decide: of one value, and of a batch.
-use Prim.Native.Nat.{ℕ, suc, _+_, _-_, _≤_, _<_, _^_}
+use Prim.Native.Nat.{ℕ, zero, suc, _+_, _-_, _≤_, _<_, _^_}
 use mathlib.Core.Path.{_≡_, refl, sym, ap, ap₂, _∙_}
 use mathlib.Core.Bool.{Bool, true, false, _||_}
 use mathlib.Core.List.{List, [], _∷_, foldl}
@@ -15,7 +15,7 @@ use mir.Syntax.{w64}
 use mir.Val.{SFits}
 use Rattle.numbers.specs.Range.{outside, Within}
 use Rattle.numbers.proofs.Between.{inside-pos, outside-pos, natural-within}
-use Rattle.numbers.proofs.Bools.{no-both}
+use Rattle.numbers.proofs.Bools.{no-both, or-no}
 use Rattle.numbers.proofs.Integers.{sub-neg, sub-pos}
 use Rattle.numbers.proofs.Machine.{read}
 use Rattle.transport.specs.Wraps.{half, lastValue, lastPosition, leadTo, stepTo, reached, positionAt}
@@ -37,6 +37,12 @@ module _ (clock : Clock) (heard : ℤ) where
       (followAnswer clock heard ≡ value (positionAt (reached clock heard))) × (clockAfter clock heard ≡ At (reached clock heard))
   unfolding followAnswer clockAfter
   accepted-is h = (rw h refl, rw h refl)
+
+  -- where a value is accepted, the position that is reached lies in the range
+  pub reached-inside : notFollowed clock heard ≡ false → outside (pos 0) lastPosition (reached clock heard) ≡ false
+  reached-inside h =
+      let behind = or-no (outside (pos 0) lastValue heard) _ h .1 in
+      or-no (badClock clock) (outside (pos 0) lastPosition (reached clock heard)) behind .1
 
   -- what the code answers in either case
   abbrev pub Follows : Outcome Position → Clock → Type 0
@@ -79,12 +85,15 @@ bad-clock position heard h = go (outside (pos 0) lastValue heard)
     go true = refl
     go false = ap (λ t. t || outside (pos 0) lastPosition (reached (At position) heard)) h
 
--- the first value of all
-pub first-value : (heard : ℤ) → outside (pos 0) lastValue heard ≡ false → notFollowed Nothing heard ≡ false
-first-value heard h =
+-- every value is a position too, and the first one of all is taken
+pub value-inside : (heard : ℤ) → outside (pos 0) lastValue heard ≡ false → outside (pos 0) lastPosition heard ≡ false
+value-inside heard h =
     let w = natural-within 0 lastValue heard h in
     let l = w .high in
-    some-value Nothing heard h refl ∙ ap (outside (pos 0) lastPosition) (w .is) ∙ inside-pos 0 (2 ^ 53) (natAbs heard) (omega arith) (omega arith)
+    ap (outside (pos 0) lastPosition) (w .is) ∙ inside-pos 0 (2 ^ 53) (natAbs heard) (omega arith) (omega arith)
+
+pub first-value : (heard : ℤ) → outside (pos 0) lastValue heard ≡ false → notFollowed Nothing heard ≡ false
+first-value heard h = some-value Nothing heard h refl ∙ value-inside heard h
 
 -- a number that lies `half` ahead of a position in the range, or of none
 pub landed : (a : ℕ) → outside (pos 0) lastPosition (subℕ a half) ≡ false → (half ≤ a) × (a - half ≤ 2 ^ 53)
@@ -135,6 +144,16 @@ module _ (values : List ℤ) (i : ℕ) where
   pub at-end : (clock : Clock) (n : ℕ) → length values ≤ i → goingOn clock n i values ≡ soFar clock n
   unfolding goingOn
   at-end clock n h = ap (foldl oneMore (soFar clock n)) (drop-of-length-le values h)
+
+-- values that the clock does not have, where nothing has been heard
+pub nothing-heard :
+    (values : List ℤ) (n : ℕ) → n ≤ length values → ((k : ℕ) → k < n → outside (pos 0) lastValue (getD values k (pos 0)) ≡ true) →
+    goingOn Nothing n n values ≡ goingOn Nothing 0 0 values
+nothing-heard values zero l h = refl
+nothing-heard values (suc n) l h =
+    let e = passed-over Nothing (getD values n (pos 0)) (no-value Nothing (getD values n (pos 0)) (h n (omega arith))) n in
+    ap (λ m. goingOn Nothing m m values) (sym (add-one n)) ∙ again values n Nothing n (omega arith) e
+    ∙ nothing-heard values n (omega arith) (λ k m. h k (omega arith))
 
 -- the whole batch
 pub from-start : (clock : Clock) (values : List ℤ) → goingOn clock 0 0 values ≡ followAllAnswer clock values

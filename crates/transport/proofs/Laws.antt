@@ -1,12 +1,12 @@
 -- The laws of the follower: its answers by the step, the true positions given back, refused values, batches, milliseconds.
-use Prim.Native.Nat.{ℕ, _+_, _≤_}
+use Prim.Native.Nat.{ℕ, _+_, _*_, _≤_}
 use mathlib.Core.Path.{_≡_, refl, sym, ap, ap₂, _∙_}
 use mathlib.Core.Bool.{false, cond}
 use mathlib.Core.List.{List, [], _∷_, _++_, map, foldl, foldl-append}
 use native.Mathlib.Nat.{mod-eq-of-lt}
 use native.Mathlib.Omega.{arith}
 use lib.Dec.{lit<}
-use lib.IntN.{ℤ, pos, natAbs, _+ℤ_, _-ℤ_}
+use lib.IntN.{ℤ, pos, _+ℤ_, _-ℤ_}
 use lib.ListN.{length}
 use lib.Signed.{ltZ}
 use Rattle.refusal.specs.Outcome.{Outcome, value, refused, refusedAt, afterCall}
@@ -14,18 +14,23 @@ use Rattle.refusal.proofs.Outcomes.{passes, same-value}
 use Rattle.numbers.specs.Floor.{floorRemainder}
 use Rattle.numbers.specs.Range.{outside}
 use Rattle.numbers.proofs.Between.{inside-pos, natural-within}
-use Rattle.numbers.proofs.Bools.{or-no}
 use Rattle.numbers.proofs.Floor.{remainder-below}
 use Rattle.numbers.proofs.Integers.{add-difference}
 use Rattle.numbers.proofs.Quotients.{quotient-monotone}
-use Rattle.transport.specs.Wraps.{wrap, lastValue, lastPosition, Step, reached, positionAt}
-use Rattle.transport.specs.Answers.{badClock, notFollowed, followAnswer, clockAfter, ifRefused, soFar, oneMore, followAllAnswer}
+use Rattle.transport.specs.Wraps.{wrap, lastValue, lastPosition, Step, reached, millisecondsOf, positionAt}
+use Rattle.transport.specs.Answers.{notFollowed, followAnswer, clockAfter, ifRefused, soFar, oneMore, followAllAnswer}
 use Rattle.transport.specs.Runs.{answersTo, Onward, RunFrom, done, more, shownAt}
 use Rattle.transport.specs.declared.Clock.{Clock}
 use Rattle.transport.specs.declared.Clock.the-variants.{Nothing, At}
 use Rattle.transport.specs.declared.Position.{Position}
 use Rattle.transport.proofs.OneStep.{step-is-one}
-use Rattle.transport.proofs.Answered.{accepted-is, some-value, first-value}
+use Rattle.transport.proofs.Answered.{accepted-is, reached-inside, some-value, value-inside, first-value}
+
+-- ---- the clock
+
+-- it wraps after 26 h 30 min 43.717 s
+pub wraps-after : millisecondsOf (pos wrap) ≡ pos (((26 * 60 + 30) * 60 + 43) * 1000 + 717)
+wraps-after = refl
 
 -- ---- one value
 
@@ -38,7 +43,7 @@ by-any-step position heard s h k w =
     let e : reached (At position) heard ≡ position +ℤ s = ap (λ s. position +ℤ s) (sym (step-is-one position heard s w)) in
     ap₂ (λ t z. cond t (refused 14) (value (positionAt z))) (some-value (At position) heard k h ∙ ap (outside (pos 0) lastPosition) e) e
 
--- an accepted value answers its position and both its numbers, and the clock goes on from there
+-- the clock goes on from the position that an accepted value answers
 pub goes-on-from : (clock : Clock) (heard : ℤ) (p : Position) → followAnswer clock heard ≡ value p → clockAfter clock heard ≡ At (p .ticks)
 unfolding clockAfter
 goes-on-from clock heard p e = ap (λ o. afterCall o (λ p. At (p .ticks)) clock) e
@@ -57,9 +62,7 @@ accepted-in-range clock heard p e =
     let t = passes (notFollowed clock heard) 14 (value (positionAt (reached clock heard))) (sym e) in
     let same = same-value (t .1) in
     let ticks = ap (λ p. p .ticks) same in
-    let behind = or-no (outside (pos 0) lastValue heard) _ (t .0) .1 in
-    let inside = or-no (badClock clock) (outside (pos 0) lastPosition (reached clock heard)) behind .1 in
-    (same ∙ ap positionAt (sym ticks), ap (outside (pos 0) lastPosition) ticks ∙ inside)
+    (same ∙ ap positionAt (sym ticks), ap (outside (pos 0) lastPosition) ticks ∙ reached-inside clock heard (t .0))
 
 -- the milliseconds never fall where the positions do not
 pub milliseconds-never-fall : (a b : ℤ) → ltZ b a ≡ false → ltZ (positionAt b .milliseconds) (positionAt a .milliseconds) ≡ false
@@ -67,7 +70,7 @@ milliseconds-never-fall a b h = quotient-monotone a b 90 (lit< tt) h
 
 -- ---- tracking
 
--- the clock at a position shows a value of its own, which leaves what the position leaves
+-- what the clock shows at a position is one of its values, with the same remainder by 2^33
 shown-inside : (position : ℤ) → outside (pos 0) lastValue (shownAt position) ≡ false
 shown-inside position =
     let l = remainder-below position wrap (lit< tt) in
@@ -108,10 +111,9 @@ tracking first rest h r =
     let w = natural-within 0 lastValue first h in
     let small = w .high in
     let same : shownAt first ≡ first = ap shownAt (w .is) ∙ ap pos (mod-eq-of-lt (omega arith)) ∙ sym (w .is) in
-    let inside = ap (outside (pos 0) lastPosition) (w .is) ∙ inside-pos 0 _ (natAbs first) (omega arith) (omega arith) in
     let e = accepted-is Nothing first (first-value first h) in
     ap₂ (λ a c. a ∷ answersTo c (map shownAt rest)) (ap (followAnswer Nothing) same ∙ e .0) (ap (clockAfter Nothing) same ∙ e .1)
-    ∙ ap (λ l. value (positionAt first) ∷ l) (tracks-from inside r)
+    ∙ ap (λ l. value (positionAt first) ∷ l) (tracks-from (value-inside first h) r)
 
 -- ---- refused values and batches
 

@@ -20,9 +20,12 @@ remainder-neg (pos zero) = omega arith
 remainder-neg (pos (suc a)) = omega arith
 remainder-neg (negsuc a) = omega arith
 
--- how far the step lies above its least
 module _ (position value : ℤ) where
-  lead : leadTo position value ≡ (floorRemainder value wrap + (wrap + half) - floorRemainder position wrap) % wrap
+  -- how far the step lies above its least, by the two remainders
+  abbrev aim : ℕ
+  aim = (floorRemainder value wrap + (wrap + half) - floorRemainder position wrap) % wrap
+
+  lead : leadTo position value ≡ aim
   lead =
       let a = remainder-add wrap (lit< tt) (value -ℤ position) (pos half) in
       let b = remainder-add wrap (lit< tt) value (negℤ position) in
@@ -34,7 +37,7 @@ module _ (position value : ℤ) where
   pub step-exists : Step position value (stepTo position value)
   step-exists = go (leadTo position value) lead
     where
-      go : (r : ℕ) → r ≡ (floorRemainder value wrap + (wrap + half) - floorRemainder position wrap) % wrap → Step position value (subℕ r half)
+      go : (r : ℕ) → r ≡ aim → Step position value (subℕ r half)
       go r e = record {
         low = on-sub (λ s. ltZ s (negℤ (pos half)) ≡ false) r half (λ l. le-ltb (half - 1) (half - suc r) (omega arith)) (λ l. refl);
         high = on-sub (λ s. ltZ s (pos half) ≡ true) r half (λ l. refl) (λ l. lt-ltb (r - half) half (omega arith));
@@ -52,8 +55,7 @@ module _ (position value : ℤ) where
   step-is-one s w = go (leadTo position value) lead s (w .low) (w .high) (sym (remainder-add wrap (lit< tt) position s) ∙ w .fits)
     where
       go :
-          (r : ℕ) → r ≡ (floorRemainder value wrap + (wrap + half) - floorRemainder position wrap) % wrap →
-          (s : ℤ) → ltZ s (negℤ (pos half)) ≡ false → ltZ s (pos half) ≡ true →
+          (r : ℕ) → r ≡ aim → (s : ℤ) → ltZ s (negℤ (pos half)) ≡ false → ltZ s (pos half) ≡ true →
           (floorRemainder position wrap + floorRemainder s wrap) % wrap ≡ floorRemainder value wrap → s ≡ subℕ r half
       go r e (pos a) low high fits =
           let l = ltb-true a half high in

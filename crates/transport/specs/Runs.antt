@@ -12,7 +12,7 @@ use Rattle.transport.specs.Answers.{followAnswer, clockAfter}
 use Rattle.transport.specs.declared.Clock.{Clock}
 use Rattle.transport.specs.declared.Position.{Position}
 
--- the answer to each value, each from the clock behind the one before it
+-- the answer to each value, from the clock that the value before it left
 unfoldable pub answersTo : Clock → (values : List ℤ) → List (Outcome Position)
 answersTo clock [] = []
 answersTo clock (heard ∷ values) = followAnswer clock heard ∷ answersTo (clockAfter clock heard) values

@@ -24,7 +24,7 @@ half = 2 ^ 32
 abbrev pub lastPosition : ℤ
 lastPosition = pos (2 ^ 53)
 
--- "−2^32 ≤ s < 2^32", and s "fits the new value modulo 2^33": it leads to a position that leaves what the value leaves
+-- "−2^32 ≤ s < 2^32", and s "fits the new value modulo 2^33": it leads to a position with the same remainder
 pub record Step (position value s : ℤ) : Type 0 where
   pub low : ltZ s (negℤ (pos half)) ≡ false
   pub high : ltZ s (pos half) ≡ true

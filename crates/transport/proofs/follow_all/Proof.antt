@@ -2,19 +2,20 @@
 use Prim.Native.Nat.{_+_, _<_}
 use mathlib.Core.Path.{_≡_, sym, ap, _∙_}
 use native.Mathlib.Omega.{arith}
-use lib.IntN.{pos}
+use lib.IntN.{pos, natAbs}
 use lib.ListN.{length, getD}
 use mir.Facts.{toZ-ofZ}
 use mir.Syntax.{w64}
 use mir.Val.{SFits}
 use borrow.Author.Needs.{needs}
+use Rattle.numbers.specs.Range.{Within}
 use Rattle.numbers.proofs.Between.{natural-within, cast-within, read-high}
 use Rattle.numbers.proofs.Machine.{answered}
 use Rattle.transport.specs.Wraps.{lastValue, lastPosition}
 use Rattle.transport.specs.Answers.{soFar, followAllAnswer}
 use Rattle.transport.specs.Batches.{goingOn}
 use Rattle.transport.specs.declared.Clock.the-variants.{Nothing, At}
-use Rattle.transport.proofs.Answered.{first-value, taken, read-is, again, at-end, from-start, none-followed}
+use Rattle.transport.proofs.Answered.{first-value, taken, read-is, again, at-end, nothing-heard, from-start, none-followed}
 use Rattle.transport.proofs.follow_all.Statement.{statement}
 use Rattle.transport.proofs.follow_all.Tie as tie
 
@@ -30,7 +31,7 @@ returns c =
     let values = s .values .now in
     let t = c .before .first-taken in
     let whole : t .result ≡ length values = omega arith in
-    ap (soFar Nothing) (sym whole) ∙ sym (at-end values (t .result) Nothing (t .result) (omega arith)) ∙ sym (t .ensures .before)
+    ap (soFar Nothing) (sym whole) ∙ sym (at-end values (t .result) Nothing (t .result) (omega arith)) ∙ nothing-heard values (t .result) (t .ensures .within) (t .ensures .before)
     ∙ from-start Nothing values ∙ ap (λ clock. followAllAnswer clock values) (sym (c .before .before .enum-told .given .1))
 
 mul-run : tie.Need-mul-run
@@ -39,13 +40,17 @@ mul-run c = search needs
 shared-slice-copy-out-run : tie.Need-shared-slice-copy-out-run
 shared-slice-copy-out-run c = search needs
 
-cast-run : tie.Need-cast-run
-cast-run c =
+-- the value that is taken
+there :
+    (c : tie.After-run-arg) → let t = c .before .before .first-taken in
+    Within 0 (natAbs lastValue) (getD (c .before .before .before .before .before .args .values .now) (t .result) (pos 0))
+there c =
     let t = c .before .before .first-taken in
-    let values = c .before .before .before .before .before .args .values .now in
-    let f : SFits w64 (getD values (t .result) (pos 0)) = search needs in
-    let l : t .result < length values = omega (arith, t .ensures .within) in
-    cast-within f (natural-within 0 lastValue _ (t .ensures .there l))
+    let l : t .result < length (c .before .before .before .before .before .args .values .now) = omega (arith, t .ensures .within) in
+    natural-within 0 lastValue _ (t .ensures .there l)
+
+cast-run : tie.Need-cast-run
+cast-run c = cast-within (search needs) (there c)
 
 add-run : tie.Need-add-run
 add-run c = search needs
@@ -55,8 +60,7 @@ run-requires c κs =
     let t = c .before .before .first-taken in
     let values = c .before .before .before .before .before .args .values .now in
     let f : SFits w64 (getD values (t .result) (pos 0)) = search needs in
-    let l : t .result < length values = omega (arith, t .ensures .within) in
-    (omega (arith, read-high f (natural-within 0 lastValue _ (t .ensures .there l))), (omega arith, omega arith))
+    (omega (arith, read-high f (there c)), (omega arith, omega arith))
 
 enum-known-clock : tie.Need-enum-known-clock
 enum-known-clock c = search needs
@@ -95,7 +99,7 @@ returns-3 c =
     let l : i < length values = omega (arith, t .ensures .within) in
     let h = t .ensures .there l in
     c .run .ensures ∙ ap (λ p. goingOn (At p) i (i + 1) values) (read-is f (natural-within 0 lastValue heard h))
-    ∙ again values i Nothing i l (taken Nothing heard (first-value heard h) i) ∙ sym (t .ensures .before)
+    ∙ again values i Nothing i l (taken Nothing heard (first-value heard h) i) ∙ nothing-heard values i (t .ensures .within) (t .ensures .before)
     ∙ from-start Nothing values ∙ ap (λ clock. followAllAnswer clock values) (sym (c .before .before .before .before .enum-told .given .1))
 
 returns-4 : tie.Need-returns-4

@@ -1,29 +1,25 @@
 -- The place is written where a value was accepted.
 use mathlib.Core.Path.{sym, ap, _∙_}
-use mathlib.Core.Bool.{cond}
-use mathlib.Core.List.{[], _∷_}
-use lib.IntN.{pos}
 use mir.Facts.{toZ-pos, toZ-ofZ}
 use mir.Syntax.{w64}
 use mir.Val.{SFits}
 use denote.Ref.{now}
 use borrow.Author.Needs.{needs}
-use borrow.Author.Tests.{eq-eqb, ne-eqb}
+use Rattle.player.specs.Returned.{clockNumbers}
 use Rattle.player.specs.ClockPlaces.{heardAt}
+use Rattle.player.proofs.ClockPlace.{all-over, not-all-over}
 use Rattle.player.proofs.clocks.followed_all.Statement.{statement}
 use Rattle.player.proofs.clocks.followed_all.Tie as tie
 
 returns : tie.Need-returns
-returns c = let s = c .before in
-    let a = s .args in
-    (toZ-pos w64 (s .pre), sym (ap (λ t. cond t (now (a .place)) (heardAt (a .batch .clock) (now (a .place)))) (eq-eqb _ _ (c .if1 .taken))))
+returns c = let a = c .before .args in
+    (toZ-pos w64 (c .before .pre), sym (all-over (a .count) (a .batch) (now (a .place)) (c .if1 .taken)))
 
 returns-2 : tie.Need-returns-2
 returns-2 c = let s = c .before .before .before in
     let a = s .args in (
       toZ-pos w64 (s .pre),
-      sym (ap (λ t. cond t (now (a .place)) (heardAt (a .batch .clock) (now (a .place)))) (ne-eqb _ _ (c .before .before .if1 .left))
-          ∙ ap (λ clock. heardAt clock (now (a .place))) (c .enum-told .given .1)),
+      sym (not-all-over (a .count) (a .batch) (now (a .place)) (c .before .before .if1 .left) ∙ ap (λ clock. heardAt clock (now (a .place))) (c .enum-told .given .1)),
     )
 
 returns-3 : tie.Need-returns-3
@@ -32,9 +28,8 @@ returns-3 c = let s = c .before .before .before .before .before in
     let g = c .before .before .clock .given in
     let f : SFits w64 (g .0 .0) = search needs in (
       toZ-pos w64 (s .pre),
-      ap (λ p. pos 1 ∷ p ∷ []) (toZ-ofZ f)
-          ∙ sym (ap (λ t. cond t (now (a .place)) (heardAt (a .batch .clock) (now (a .place)))) (ne-eqb _ _ (c .before .before .before .before .if1 .left))
-          ∙ ap (λ clock. heardAt clock (now (a .place))) (g .1)),
+      ap clockNumbers (toZ-ofZ f)
+          ∙ sym (not-all-over (a .count) (a .batch) (now (a .place)) (c .before .before .before .before .if1 .left) ∙ ap (λ clock. heardAt clock (now (a .place))) (g .1)),
     )
 
 pub followed-all-spec : {M : Type 1} → statement M

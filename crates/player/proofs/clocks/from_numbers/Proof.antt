@@ -1,4 +1,4 @@
--- 0 is its own only key.
+-- The test of the bits for 0 is that of the number.
 use mathlib.Core.Path.{sym, ap, _∙_}
 use lib.Dec.{lit<}
 use mir.Facts.{toZ-ofZ}
