@@ -452,8 +452,8 @@ int64_t ovenquill_check_bound(int64_t a, int64_t b, int64_t d, int64_t m, int64_
  *
  * From one accepted value to the next goes the one step s with -2^32 <= s < 2^32 that leads to the new value modulo 2^33: the
  * shorter way round, and backwards where both are as long. So a stream may jump by less than half a wrap, 13 h 15 min 21.8 s,
- * either way. A longer jump is taken for the shortest that leads to the same value, and the whole wraps in it are lost. No
- * position is below 0: a value from before the first one, which would lead there, is refused.
+ * either way. A longer jump is taken for the shortest that leads to the same value, and the position is then off by whole
+ * wraps. No position is below 0: a value that would lead there is refused.
  *
  * A follower that is restarted knows nothing of earlier wraps: it takes its first value as it is, and counts from there. To go
  * on after a restart, keep both numbers and hand them in again before the stream has moved by half a wrap.

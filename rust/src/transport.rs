@@ -19,8 +19,8 @@ pub const CLOCK_TICKS_PER_MILLISECOND: i64 = 90;
 /// It counts on, forwards and backwards and past any number of wraps. The first value is taken as it is. From one accepted
 /// value to the next goes the one step `s`, -2^32 <= `s` < 2^32, that leads to the new value modulo 2^33: the shorter way
 /// round, and backwards where both are as long. So a stream may jump by less than half a wrap, 13 h 15 min 21.8 s, either
-/// way. A longer jump is taken for the shortest that leads to the same value, and the whole wraps in it are lost. No
-/// position is below 0: a value from before the first one, which would lead there, is refused.
+/// way. A longer jump is taken for the shortest that leads to the same value, and the position is then off by whole wraps.
+/// No position is below 0: a value that would lead there is refused.
 ///
 /// A follower that is restarted knows nothing of earlier wraps: it takes its first value as it is, and counts from there. To
 /// go on after a restart, keep the clock, or its ticks and begin with `Clock::At(ticks)`, and hand it the next value before
