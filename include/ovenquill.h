@@ -8,8 +8,8 @@
  * The archive is for x86-64 with ELF and is position independent: it also goes into a shared library. Header and archive go
  * together: nothing tells at run time that they are of different versions.
  *
- * Any numbers and any bytes may be handed in. A call allocates nothing, keeps no state, calls no function outside the archive
- * and leaves errno alone: it may be made from any thread and from a signal handler.
+ * Any numbers and any bytes may be handed in. A call allocates nothing, keeps no state (a transport clock is the caller's),
+ * calls no function outside the archive and leaves errno alone: it may be made from any thread and from a signal handler.
  *
  * Every call returns 0 or more where it is done, and below 0 where it is refused: the refusal's number negated, which has a
  * macro below. The refusals of a call are listed in the order in which they are looked for; the first whose cause holds is
@@ -95,7 +95,7 @@ extern "C" {
 #define OVENQUILL_LAST_CLOCK_VALUE OVENQUILL_NUMBER_(OVENQUILL_LAST_CLOCK_VALUE_)
 #define OVENQUILL_FIRST_CLOCK_POSITION OVENQUILL_NUMBER_(OVENQUILL_FIRST_CLOCK_POSITION_)
 #define OVENQUILL_LAST_CLOCK_POSITION OVENQUILL_NUMBER_(OVENQUILL_LAST_CLOCK_POSITION_)
-#define OVENQUILL_TICKS_PER_MILLISECOND INT64_C(90)
+#define OVENQUILL_CLOCK_TICKS_PER_MILLISECOND INT64_C(90)
 
 /* The constants that are checked, the end of a search and the bound of a claim. */
 #define OVENQUILL_A_MIN INT64_C(1)
@@ -446,23 +446,25 @@ int64_t ovenquill_check_bound(int64_t a, int64_t b, int64_t d, int64_t m, int64_
  *
  *     ovenquill_clock clock = OVENQUILL_CLOCK_START;
  *     ovenquill_follow(&clock, 8589934500)    answers 95443716; clock.position is 8589934500, the first value as it is
- *     ovenquill_follow(&clock, 2910)          answers 95443750; clock.position is 8589937502, behind the wrap
+ *     ovenquill_follow(&clock, 2910)          answers 95443750; clock.position is 8589937502, after the wrap
  *     ovenquill_follow(&clock, 8589934590)    answers 95443717; clock.position is 8589934590, a picture sent out of order
  *     ovenquill_follow(&clock, 8589934592)    answers OVENQUILL_CLOCK_OUT_OF_RANGE; the clock is unchanged
  *
  * From one accepted value to the next goes the one step s with -2^32 <= s < 2^32 that leads to the new value modulo 2^33: the
  * shorter way round, and backwards where both are as long. So a stream may jump by less than half a wrap, 13 h 15 min 21.8 s,
- * either way. A longer jump is taken for the shortest that leads to the same value, and the position is then off by whole
- * wraps. No position is below 0: a value that would lead there is refused.
+ * either way; a longer jump is taken for the shorter one that leads to the same value, and every position from then on is off
+ * by a whole number of wraps. No position is below 0: a value that would lead there, as 8589934591 does after a first value of
+ * 0, is refused. Where a stream changes its time base, at a discontinuity, begin the clock anew.
  *
  * A follower that is restarted knows nothing of earlier wraps: it takes its first value as it is, and counts from there. To go
  * on after a restart, keep both numbers and hand them in again before the stream has moved by half a wrap.
  */
 
 /*
- * Follows one value. Answers the milliseconds of its position: ticks divided by OVENQUILL_TICKS_PER_MILLISECOND, rounded down.
- * `clock` is then at that position, with `heard` 1. The largest answer is that of OVENQUILL_LAST_CLOCK_POSITION; above
- * OVENQUILL_LAST_POSITION milliseconds, some 11 years, ovenquill_write_position writes no label of it.
+ * Follows one value. Answers the milliseconds of its position: ticks divided by OVENQUILL_CLOCK_TICKS_PER_MILLISECOND,
+ * rounded down. `clock` is then at that position, with `heard` 1. The largest answer is that of
+ * OVENQUILL_LAST_CLOCK_POSITION; above OVENQUILL_LAST_POSITION milliseconds, some 11 years, ovenquill_write_position writes no
+ * label of it.
  *
  * Refusal, after which `clock` is unchanged, so that the next value is read as if this one had not come:
  *   OVENQUILL_CLOCK_OUT_OF_RANGE   value outside OVENQUILL_FIRST_CLOCK_VALUE to OVENQUILL_LAST_CLOCK_VALUE, or the position
@@ -473,9 +475,9 @@ int64_t ovenquill_follow(ovenquill_clock *clock, int64_t value);
 
 /*
  * Follows a list of values in order, each as ovenquill_follow does, and passes over those that it refuses. Answers how many it
- * passed over; it is never refused. `clock` is then where the last accepted value led to, with `heard` 1, and is unchanged where
- * none was accepted: with a position handed in that is out of its range that is every list, until the clock is begun anew. A
- * list may be split into batches anywhere: the clock behind the last is the same, and the answers add up.
+ * passed over; it is never refused. `clock` is then where the last accepted value led to, with `heard` 1; where none was
+ * accepted it is unchanged. From a position outside its range every value is passed over, until the clock is begun anew. A list
+ * may be split into batches anywhere: the clock after the last batch is the same, and the answers add up.
  */
 int64_t ovenquill_follow_all(ovenquill_clock *clock, const int64_t *values, size_t count);
 

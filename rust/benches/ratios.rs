@@ -12,8 +12,8 @@ mod random;
 mod rivals;
 
 use measure::call::{
-    CueReader, Eight, EightTo, Follower, FourTo, Index, ListFollower, One, OneTo, PositionReader, Reader, SevenTo,
-    Text, Three, ThreeTo, Two, Waiting, Writer, MOST_BLANKS,
+    CueReader, Eight, EightTo, Follower, FourTo, GoingOn, Index, ListFollower, One, OneTo, PositionReader, Reader,
+    SevenTo, Text, Three, ThreeTo, Two, Waiting, Writer, MOST_BLANKS,
 };
 use measure::{best_times, line, percentile, shown, Inputs, PARTS, ROUNDS};
 use ovenquill::{
@@ -487,12 +487,24 @@ fn transport_lines() {
             ],
         );
     }
+    let going_on: Vec<(raw::Clock, i64)> =
+        frames(random, start.position, 1000).into_iter().take(INPUTS).map(|value| (start, value)).collect();
+    line::<GoingOn>(
+        "follow a clock value, each call going on from the one before, a frame apart, 1 in 1000 refused",
+        &Inputs::of(&going_on),
+        GoingOn(raw::ovenquill_follow),
+        &[
+            (RUST, GoingOn(transport::follow::<BY_REMAINDER>)),
+            (BY_HAND, GoingOn(transport::follow::<BY_COMPARES>)),
+            (STEPS, GoingOn(transport::follow::<BY_VALUE_BEFORE>)),
+        ],
+    );
     let positions = numbers(random, CLOCK_POSITIONS);
     let values = numbers(random, CLOCK_VALUES);
     let one_value: Vec<(raw::Clock, i64)> =
         positions.iter().zip(values).map(|(&position, value)| (raw::Clock { heard: 1, position }, value)).collect();
     line::<Follower>(
-        "follow a clock value",
+        "follow a clock value, from any position",
         &Inputs::of(&one_value),
         raw::ovenquill_follow,
         &[

@@ -15,7 +15,8 @@
 //! | the clock of a transport stream | [`Clock`], [`ClockPosition`] | [`Clock::follow`], [`Clock::follow_all`] |
 //!
 //! Every call takes any numbers and any slices. What it does not take it answers with a [`Refusal`], which has a number and
-//! words ([`Clock::follow_all`] passes over it, and counts); a refused call changes nothing that was lent to it. A count of days is counted from 1970-01-01, an instant in
+//! words; a refused call changes nothing that was lent to it. [`Clock::follow_all`] is never refused: it passes over the
+//! values that [`Clock::follow`] refuses, and counts them. A count of days is counted from 1970-01-01, an instant in
 //! milliseconds from 1970-01-01 00:00, both negative before. There are no time zones, no leap seconds and no locale.
 //!
 //! ```

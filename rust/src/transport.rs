@@ -19,8 +19,9 @@ pub const CLOCK_TICKS_PER_MILLISECOND: i64 = 90;
 /// It counts on, forwards and backwards and past any number of wraps. The first value is taken as it is. From one accepted
 /// value to the next goes the one step `s`, -2^32 <= `s` < 2^32, that leads to the new value modulo 2^33: the shorter way
 /// round, and backwards where both are as long. So a stream may jump by less than half a wrap, 13 h 15 min 21.8 s, either
-/// way. A longer jump is taken for the shortest that leads to the same value, and the position is then off by whole wraps.
-/// No position is below 0: a value that would lead there is refused.
+/// way; a longer jump is taken for the shorter one that leads to the same value, and every position from then on is off by a
+/// whole number of wraps. No position is below 0: a value that would lead there, as 8589934591 does after a first value of
+/// 0, is refused. Where a stream changes its time base, at a discontinuity, begin with a new clock.
 ///
 /// A follower that is restarted knows nothing of earlier wraps: it takes its first value as it is, and counts from there. To
 /// go on after a restart, keep the clock, or its ticks and begin with `Clock::At(ticks)`, and hand it the next value before
@@ -31,14 +32,14 @@ pub const CLOCK_TICKS_PER_MILLISECOND: i64 = 90;
 ///
 /// let mut clock = Clock::Nothing;
 /// assert_eq!(clock.follow(8589934500)?, ClockPosition { ticks: 8589934500, milliseconds: 95443716 });
-/// // behind the wrap
+/// // after the wrap
 /// assert_eq!(clock.follow(2910)?, ClockPosition { ticks: 8589937502, milliseconds: 95443750 });
 /// // a picture sent out of order
 /// assert_eq!(clock.follow(8589934590)?, ClockPosition { ticks: 8589934590, milliseconds: 95443717 });
 /// assert_eq!(clock, Clock::At(8589934590));
 /// # Ok::<(), Refusal>(())
 /// ```
-#[derive(Clone, Copy, Debug, Default, PartialEq, Eq, Hash)]
+#[derive(Clone, Debug, Default, PartialEq, Eq, Hash)]
 pub enum Clock {
     /// Nothing has been heard yet.
     #[default]
@@ -87,7 +88,7 @@ impl Clock {
     /// Answers how many it passed over.
     ///
     /// From a position outside [`CLOCK_POSITIONS`] every value is passed over, and the clock stays. A list may be split into
-    /// batches anywhere: the clock behind the last is the same, and the answers add up.
+    /// batches anywhere: the clock after the last is the same, and the answers add up.
     ///
     /// ```
     /// use ovenquill::Clock;
@@ -104,13 +105,13 @@ impl Clock {
         if numbers.heard != 0 {
             *self = Clock::At(numbers.position);
         }
-        // By its contract the call answers no other number.
-        usize::try_from(skipped).unwrap_or(values.len())
+        // By its contract the call answers at most the length; what no list can have tells of another archive.
+        usize::try_from(skipped).unwrap_or(usize::MAX)
     }
 
     /// The clock as C has it.
-    fn numbers(self) -> raw::Clock {
-        match self {
+    fn numbers(&self) -> raw::Clock {
+        match *self {
             Clock::Nothing => raw::Clock { heard: 0, position: 0 },
             Clock::At(position) => raw::Clock { heard: 1, position },
         }

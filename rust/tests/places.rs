@@ -282,7 +282,7 @@ fn one_value_of_a_clock() {
         for _ in 0..50_000 {
             let numbers = raw::Clock { heard, position: some_clock_position(&mut random) };
             let value = some(&mut random, 0, WRAP - 1);
-            let (wanted, kind) = match plain::follow(clock_of(numbers), value) {
+            let (wanted, kind) = match plain::follow(&clock_of(numbers), value) {
                 Value(position) => ((position.milliseconds, raw::Clock { heard: 1, position: position.ticks }), 0),
                 refused => ((-refused_number(refused), numbers), 1),
             };
@@ -311,7 +311,7 @@ fn a_list_of_values_of_a_clock() {
             // Those on either side would be followed or counted if they were read.
             let around: Vec<i64> = (0..length + 4).map(|_| value()).collect();
             let values = &around[2..2 + length];
-            let (behind, passed_over) = plain::follow_all(clock_of(numbers), values);
+            let (behind, passed_over) = plain::follow_all(&clock_of(numbers), values);
             let wanted = match behind {
                 Clock::At(position) if passed_over < length => raw::Clock { heard: 1, position },
                 _ => numbers,

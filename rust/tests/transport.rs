@@ -12,14 +12,14 @@ use support::random::Random;
 
 /// Holds what a clock answers to a value, and where it is then, to the plain follower; and the same of a list of that value.
 fn try_value(clock: Clock, value: i64) {
-    let expected = plain::follow(clock, value);
+    let expected = plain::follow(&clock, value);
     let (behind, passed_over) = match expected {
         Value(position) => (Clock::At(position.ticks), 0),
-        _ => (clock, 1),
+        _ => (clock.clone(), 1),
     };
-    let mut followed = clock;
-    assert_eq!((answer(followed.follow(value)), followed), (expected, behind), "{clock:?} and {value}");
-    let mut followed = clock;
+    let mut followed = clock.clone();
+    assert_eq!((answer(followed.follow(value)), followed), (expected, behind.clone()), "{clock:?} and {value}");
+    let mut followed = clock.clone();
     assert_eq!((followed.follow_all(&[value]), followed), (passed_over, behind), "{clock:?} and a list of {value}");
 }
 
@@ -82,10 +82,10 @@ fn words_of_change_request_five() {
         (Clock::At(9007199254740992), 8589934591, 9007199254740991, 100079991719344),
         (Clock::At(9007199254740992), 4294967296, 9007194959773696, 100079943997485),
     ] {
-        let mut followed = clock;
+        let mut followed = clock.clone();
         assert_eq!(followed.follow(value), Ok(ClockPosition { ticks, milliseconds }), "{clock:?} and {value}");
         assert_eq!(followed, Clock::At(ticks));
-        let mut followed = clock;
+        let mut followed = clock.clone();
         assert_eq!(followed.follow_all(&[value]), 0);
         assert_eq!(followed, Clock::At(ticks));
     }
@@ -111,7 +111,7 @@ fn words_of_change_request_five() {
         (Clock::At(i64::MIN), 0),
         (Clock::At(i64::MAX), 8589934591),
     ] {
-        let mut followed = clock;
+        let mut followed = clock.clone();
         assert_eq!(answer(followed.follow(value)), Refused(14), "{clock:?} and {value}");
         assert_eq!(followed, clock);
         assert_eq!(followed.follow_all(&[value, value]), 2);
@@ -228,11 +228,11 @@ fn some_run(random: &mut Random, first: i64, length: usize) -> Vec<i64> {
 }
 
 /// A value that a clock, with nothing heard or in the range, must refuse.
-fn some_refused(random: &mut Random, clock: Clock) -> i64 {
+fn some_refused(random: &mut Random, clock: &Clock) -> i64 {
     let (below, above) = (random.within(i64::MIN, -1), random.within(WRAP, i64::MAX));
     let mut choices = vec![i64::MIN, below, -WRAP, -1, WRAP, 2 * WRAP - 1, above, i64::MAX];
     // From where the steps lead out of the range, most often one that does.
-    if let Clock::At(position) = clock {
+    if let Clock::At(position) = *clock {
         let (first, last) = (position - HALF_WRAP, position + HALF_WRAP - 1);
         if first < 0 {
             choices.extend([value_at(random.within(first, -1)), value_at(-1), value_at(first)].repeat(5));
@@ -267,12 +267,12 @@ impl Seen {
 /// Feeds a clock the values of a run and refused ones between them: the true positions must come back, value by value and
 /// behind the list, whole and in two batches.
 fn try_run(random: &mut Random, start: Clock, run: &[i64], seen: &mut Seen) {
-    let mut clock = start;
+    let mut clock = start.clone();
     let mut fed = Vec::new();
     for &next in run {
-        let before = clock;
+        let before = clock.clone();
         while random.within(0, 3) == 0 {
-            let refused = some_refused(random, before);
+            let refused = some_refused(random, &before);
             assert_eq!(answer(clock.follow(refused)), Refused(14), "{before:?} and {refused}");
             assert_eq!(clock, before);
             fed.push(refused);
@@ -290,10 +290,10 @@ fn try_run(random: &mut Random, start: Clock, run: &[i64], seen: &mut Seen) {
         }
     }
     let passed_over = fed.len() - run.len();
-    let mut whole = start;
-    assert_eq!((whole.follow_all(&fed), whole), (passed_over, clock), "{start:?} and {fed:?}");
+    let mut whole = start.clone();
+    assert_eq!((whole.follow_all(&fed), whole), (passed_over, clock.clone()), "{start:?} and {fed:?}");
     let place = random.within(0, fed.len() as i64) as usize;
-    let mut parts = start;
+    let mut parts = start.clone();
     let sum = parts.follow_all(&fed[..place]) + parts.follow_all(&fed[place..]);
     assert_eq!((sum, parts), (passed_over, clock), "{start:?} and {fed:?}, split at {place}");
 }
@@ -376,21 +376,25 @@ fn a_leap_year_of_a_clock_that_wraps_after_26_hours_and_a_half() {
 /// Holds a list to the plain follower: whole, value by value, without those that are passed over, and split at each of these
 /// places.
 fn try_list(start: Clock, values: &[i64], places: impl Iterator<Item = usize>) {
-    let (behind, passed_over) = plain::follow_all(start, values);
-    let mut whole = start;
-    assert_eq!((whole.follow_all(values), whole), (passed_over, behind), "{start:?} and {values:?}");
+    let (behind, passed_over) = plain::follow_all(&start, values);
+    let mut whole = start.clone();
+    assert_eq!((whole.follow_all(values), whole), (passed_over, behind.clone()), "{start:?} and {values:?}");
 
-    let mut one_by_one = start;
+    let mut one_by_one = start.clone();
     let accepted: Vec<i64> = values.iter().copied().filter(|&value| one_by_one.follow(value).is_ok()).collect();
-    assert_eq!((values.len() - accepted.len(), one_by_one), (passed_over, behind), "{start:?} and {values:?}");
+    assert_eq!((values.len() - accepted.len(), one_by_one), (passed_over, behind.clone()), "{start:?} and {values:?}");
 
-    let mut without_refused = start;
-    assert_eq!((without_refused.follow_all(&accepted), without_refused), (0, behind), "{start:?} and {values:?}");
+    let mut without_refused = start.clone();
+    assert_eq!(
+        (without_refused.follow_all(&accepted), without_refused),
+        (0, behind.clone()),
+        "{start:?} and {values:?}"
+    );
 
     for place in places {
-        let mut parts = start;
+        let mut parts = start.clone();
         let sum = parts.follow_all(&values[..place]) + parts.follow_all(&values[place..]);
-        assert_eq!((sum, parts), (passed_over, behind), "{start:?} and {values:?}, split at {place}");
+        assert_eq!((sum, parts), (passed_over, behind.clone()), "{start:?} and {values:?}, split at {place}");
     }
 }
 
@@ -416,8 +420,8 @@ fn lists_in_many_batches() {
         let start = some_clock(&mut random);
         let length = random.within(0, 200) as usize;
         let values = some_values(&mut random, length);
-        let (behind, passed_over) = plain::follow_all(start, &values);
-        let mut clock = start;
+        let (behind, passed_over) = plain::follow_all(&start, &values);
+        let mut clock = start.clone();
         let mut sum = 0;
         let mut rest = &values[..];
         while !rest.is_empty() {
@@ -457,11 +461,11 @@ fn lists_of_refused_values_and_empty_lists() {
     let mut random = Random::new(46);
     let clocks = numbers_worth_trying().into_iter().map(Clock::At).chain([Clock::Nothing, Clock::default()]);
     for start in clocks {
-        let mut clock = start;
+        let mut clock = start.clone();
         assert_eq!(clock.follow_all(&[]), 0);
         assert_eq!(clock, start);
         for length in [1, 2, 3, 8, 17] {
-            let refused: Vec<i64> = (0..length).map(|_| some_refused(&mut random, Clock::Nothing)).collect();
+            let refused: Vec<i64> = (0..length).map(|_| some_refused(&mut random, &Clock::Nothing)).collect();
             assert_eq!(clock.follow_all(&refused), length);
             assert_eq!(clock, start);
         }
@@ -480,8 +484,8 @@ fn a_list_of_half_a_million_values() {
     let mut random = Random::new(47);
     let values = some_values(&mut random, 500_000);
     for start in [Clock::Nothing, Clock::At(LAST_CLOCK_POSITION / 2), Clock::At(LAST_CLOCK_POSITION)] {
-        let (behind, passed_over) = plain::follow_all(start, &values);
-        let mut clock = start;
+        let (behind, passed_over) = plain::follow_all(&start, &values);
+        let mut clock = start.clone();
         assert_eq!((clock.follow_all(&values), clock), (passed_over, behind), "{start:?}");
     }
 }

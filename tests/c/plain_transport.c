@@ -1,4 +1,6 @@
 /* The transport clock: change request Five. A clock is whether something has been heard, and the position. */
+#include <stdlib.h>
+
 #include "plain.h"
 
 /* Whether a step lies within its limits and leads from a position to one that is the value modulo 2^33. */
@@ -7,16 +9,20 @@ static int fits(int64_t position, int64_t step, int64_t value)
     return step >= PAPER_LEAST_STEP && step < PAPER_STEP_END && (position + step - value) % PAPER_CLOCK_WRAP == 0;
 }
 
-/* The one step that fits: it goes straight to the value, or there by one wrap less or more. */
+/* The step that fits, which must be one: it goes straight to the value, or there by one wrap less or more. */
 static int64_t step_to(int64_t position, int64_t value)
 {
     const int64_t straight = value - position % PAPER_CLOCK_WRAP;
     const int64_t steps[3] = {straight, straight - PAPER_CLOCK_WRAP, straight + PAPER_CLOCK_WRAP};
     int64_t step = 0;
-    int i;
+    int i, found = 0;
     for (i = 0; i < 3; i++)
-        if (fits(position, steps[i], value))
+        if (fits(position, steps[i], value)) {
             step = steps[i];
+            found++;
+        }
+    if (found != 1)
+        abort();
     return step;
 }
 

@@ -311,6 +311,29 @@ impl Call for Follower {
     }
 }
 
+/// The same, each call going on from the one before.
+#[derive(Clone, Copy)]
+pub struct GoingOn(pub Follower);
+
+impl Call for GoingOn {
+    /// The clock before the first call, and the value.
+    type Input = (Clock, i64);
+    type Lent = Clock;
+
+    fn cleared(&(clock, _): &Self::Input) -> Clock {
+        clock
+    }
+
+    fn call(self, &(_, value): &Self::Input, lent: &mut Clock) -> i64 {
+        // SAFETY: the clock is ours to lend.
+        unsafe { self.0(lent, value) }
+    }
+
+    fn sum(_: &Clock) -> i64 {
+        0
+    }
+}
+
 pub type ListFollower = unsafe extern "C" fn(*mut Clock, *const i64, usize) -> i64;
 
 impl Call for ListFollower {

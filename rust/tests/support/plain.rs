@@ -515,11 +515,11 @@ fn clock_position_in_range(position: i128) -> bool {
 }
 
 /// The position that a value leads to, from which the clock goes on; after a refusal it goes on from where it was.
-pub fn follow(clock: Clock, value: i64) -> Answer<ClockPosition> {
+pub fn follow(clock: &Clock, value: i64) -> Answer<ClockPosition> {
     if !(0..WRAP).contains(&value) {
         return Refused(14);
     }
-    let reached = match clock {
+    let reached = match *clock {
         Clock::Nothing => value.into(),
         Clock::At(position) if !clock_position_in_range(position.into()) => return Refused(14),
         Clock::At(position) => i128::from(position) + clock_step(position.into(), value.into()),
@@ -531,11 +531,11 @@ pub fn follow(clock: Clock, value: i64) -> Answer<ClockPosition> {
     Value(ClockPosition { ticks, milliseconds: ticks.div_euclid(TICKS_PER_MILLISECOND) })
 }
 
-/// The clock behind a list of values, and how many of them were passed over.
-pub fn follow_all(mut clock: Clock, values: &[i64]) -> (Clock, usize) {
-    let mut passed_over = 0;
+/// The clock after a list of values, and how many of them were passed over.
+pub fn follow_all(start: &Clock, values: &[i64]) -> (Clock, usize) {
+    let (mut clock, mut passed_over) = (start.clone(), 0);
     for &value in values {
-        match follow(clock, value) {
+        match follow(&clock, value) {
             Value(position) => clock = Clock::At(position.ticks),
             _ => passed_over += 1,
         }
