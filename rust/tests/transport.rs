@@ -13,14 +13,14 @@ use support::random::Random;
 /// Holds what a clock answers to a value, and where it is then, to the plain follower; and the same of a list of that value.
 fn try_value(clock: Clock, value: i64) {
     let expected = plain::follow(&clock, value);
-    let (behind, passed_over) = match expected {
+    let (after, passed_over) = match expected {
         Value(position) => (Clock::At(position.ticks), 0),
         _ => (clock.clone(), 1),
     };
     let mut followed = clock.clone();
-    assert_eq!((answer(followed.follow(value)), followed), (expected, behind.clone()), "{clock:?} and {value}");
+    assert_eq!((answer(followed.follow(value)), followed), (expected, after.clone()), "{clock:?} and {value}");
     let mut followed = clock.clone();
-    assert_eq!((followed.follow_all(&[value]), followed), (passed_over, behind), "{clock:?} and a list of {value}");
+    assert_eq!((followed.follow_all(&[value]), followed), (passed_over, after), "{clock:?} and a list of {value}");
 }
 
 /// The value of the clock at a position.
@@ -265,7 +265,7 @@ impl Seen {
 }
 
 /// Feeds a clock the values of a run and refused ones between them: the true positions must come back, value by value and
-/// behind the list, whole and in two batches.
+/// after the list, whole and in two batches.
 fn try_run(random: &mut Random, start: Clock, run: &[i64], seen: &mut Seen) {
     let mut clock = start.clone();
     let mut fed = Vec::new();
@@ -376,25 +376,25 @@ fn a_leap_year_of_a_clock_that_wraps_after_26_hours_and_a_half() {
 /// Holds a list to the plain follower: whole, value by value, without those that are passed over, and split at each of these
 /// places.
 fn try_list(start: Clock, values: &[i64], places: impl Iterator<Item = usize>) {
-    let (behind, passed_over) = plain::follow_all(&start, values);
+    let (after, passed_over) = plain::follow_all(&start, values);
     let mut whole = start.clone();
-    assert_eq!((whole.follow_all(values), whole), (passed_over, behind.clone()), "{start:?} and {values:?}");
+    assert_eq!((whole.follow_all(values), whole), (passed_over, after.clone()), "{start:?} and {values:?}");
 
     let mut one_by_one = start.clone();
     let accepted: Vec<i64> = values.iter().copied().filter(|&value| one_by_one.follow(value).is_ok()).collect();
-    assert_eq!((values.len() - accepted.len(), one_by_one), (passed_over, behind.clone()), "{start:?} and {values:?}");
+    assert_eq!((values.len() - accepted.len(), one_by_one), (passed_over, after.clone()), "{start:?} and {values:?}");
 
     let mut without_refused = start.clone();
     assert_eq!(
         (without_refused.follow_all(&accepted), without_refused),
-        (0, behind.clone()),
+        (0, after.clone()),
         "{start:?} and {values:?}"
     );
 
     for place in places {
         let mut parts = start.clone();
         let sum = parts.follow_all(&values[..place]) + parts.follow_all(&values[place..]);
-        assert_eq!((sum, parts), (passed_over, behind.clone()), "{start:?} and {values:?}, split at {place}");
+        assert_eq!((sum, parts), (passed_over, after.clone()), "{start:?} and {values:?}, split at {place}");
     }
 }
 
@@ -420,7 +420,7 @@ fn lists_in_many_batches() {
         let start = some_clock(&mut random);
         let length = random.within(0, 200) as usize;
         let values = some_values(&mut random, length);
-        let (behind, passed_over) = plain::follow_all(&start, &values);
+        let (after, passed_over) = plain::follow_all(&start, &values);
         let mut clock = start.clone();
         let mut sum = 0;
         let mut rest = &values[..];
@@ -429,7 +429,7 @@ fn lists_in_many_batches() {
             sum += clock.follow_all(batch);
             rest = others;
         }
-        assert_eq!((sum, clock), (passed_over, behind), "{start:?} and {values:?}");
+        assert_eq!((sum, clock), (passed_over, after), "{start:?} and {values:?}");
     }
 }
 
@@ -484,9 +484,9 @@ fn a_list_of_half_a_million_values() {
     let mut random = Random::new(47);
     let values = some_values(&mut random, 500_000);
     for start in [Clock::Nothing, Clock::At(LAST_CLOCK_POSITION / 2), Clock::At(LAST_CLOCK_POSITION)] {
-        let (behind, passed_over) = plain::follow_all(&start, &values);
+        let (after, passed_over) = plain::follow_all(&start, &values);
         let mut clock = start.clone();
-        assert_eq!((clock.follow_all(&values), clock), (passed_over, behind), "{start:?}");
+        assert_eq!((clock.follow_all(&values), clock), (passed_over, after), "{start:?}");
     }
 }
 

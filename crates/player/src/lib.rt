@@ -20,7 +20,7 @@
 //     ovenquill_first_difference(a, b, d, m, c, k, t, end)                    the least n, or `end`
 //     ovenquill_check_bound(a, b, d, m, c, k, t, bound, least)                0 accepted; a refusal 10 puts the least n in `least`
 //     ovenquill_follow(clock, value)                                          the milliseconds, and the clock goes on from there
-//     ovenquill_follow_all(clock, values)                                     how many were passed over, and the clock behind the last
+//     ovenquill_follow_all(clock, values)                                     how many were passed over, and the clock after them
 
 ghost use mathlib.Core.Path.{_≡_};
 ghost use Rattle.refusal.specs.Outcome.{afterCall};

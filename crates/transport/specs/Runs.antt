@@ -23,7 +23,7 @@ pub record Onward (position next : ℤ) : Type 0 where
   pub low : ltZ (next -ℤ position) (negℤ (pos half)) ≡ false
   pub high : ltZ (next -ℤ position) (pos half) ≡ true
 
--- "any run of true positions", behind the first
+-- "any run of true positions", after the first
 pub data RunFrom : (position : ℤ) → List ℤ → Type 0 where
   done : {position : ℤ} → RunFrom position []
   more : {position next : ℤ} {rest : List ℤ} → Onward position next → RunFrom next rest → RunFrom position (next ∷ rest)

@@ -9,7 +9,7 @@ use Rattle.transport.specs.declared.Clock.{Clock}
 use Rattle.transport.specs.declared.Clock.the-variants.{Nothing, At}
 use Rattle.transport.specs.declared.Position.{Position}
 
--- the values are 0 to 2^33 - 1, and behind the last one comes 0 again
+-- the values are 0 to 2^33 - 1, and after the last one comes 0 again
 abbrev pub wrap : ℕ
 wrap = 2 ^ 33
 

@@ -1,7 +1,7 @@
 // The 33-bit clock of a transport stream, followed past its wraps (document 02, request Five).
 //
-//     follow(clock, value)             position in ticks and in milliseconds, and the clock from there on        refusal 14, the clock kept
-//     follow_all(clock, values)        the clock behind the last value, and how many were passed over            no refusal
+//     follow(clock, value)             position in ticks and milliseconds, and the clock there        refusal 14, the clock kept
+//     follow_all(clock, values)        the clock after them, and how many were passed over            no refusal
 //
 // A clock that begins anew knows nothing of earlier wraps: it takes its first value as it is.
 

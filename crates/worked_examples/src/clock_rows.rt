@@ -44,7 +44,7 @@ fn clock_words(clock: Clock) {
     }
 }
 
-// One value: its position in ticks and in milliseconds, and the clock behind it.
+// One value: its position in ticks and in milliseconds, and the clock after it.
 fn value(clock: Clock, heard: i64) {
     text(b"clock ");
     clock_words(clock);
@@ -68,12 +68,12 @@ fn value(clock: Clock, heard: i64) {
     text(b"\n");
 }
 
-// A batch: how many values were passed over, and the clock behind the last.
+// A batch: how many values were passed over, and the clock after them.
 fn values(clock: Clock, list: &[i64]) {
     text(b"clock ");
     clock_words(clock);
     text(b", values");
-    numbers_behind(list);
+    spaced_numbers(list);
     text(b": ");
     let batch = transport::follow_all(clock, list);
     natural(batch.skipped as u64);
@@ -84,7 +84,7 @@ fn values(clock: Clock, list: &[i64]) {
 }
 
 // Each number, with a blank before it.
-fn numbers_behind(list: &[i64]) {
+fn spaced_numbers(list: &[i64]) {
     let mut i = 0;
     while i < list.len() {
         text(b" ");

@@ -3,8 +3,8 @@ use Prim.Native.Nat.{_-_, _≤_}
 use native.Mathlib.Omega.{arith}
 use lib.ListN.{length}
 use borrow.Author.Needs.{needs}
-use Rattle.worked_examples.proofs.clock_rows.numbers_behind.Statement.{statement}
-use Rattle.worked_examples.proofs.clock_rows.numbers_behind.Tie as tie
+use Rattle.worked_examples.proofs.clock_rows.spaced_numbers.Statement.{statement}
+use Rattle.worked_examples.proofs.clock_rows.spaced_numbers.Tie as tie
 
 abbrev Inv-loop : tie.InvT-loop
 Inv-loop list i₀ blank i = i ≤ length list
@@ -36,8 +36,8 @@ loop-again c = omega arith
 returns : tie.Need-returns Inv-loop μ-loop
 returns c = search needs
 
-pub numbers-behind-spec : {M : Type 1} → statement M
-numbers-behind-spec =
+pub spaced-numbers-spec : {M : Type 1} → statement M
+spaced-numbers-spec =
     tie.close
     (tie.spec
     Inv-loop
