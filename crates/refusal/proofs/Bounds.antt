@@ -3,9 +3,9 @@ use Prim.Native.Nat.{_≤_}
 use native.Mathlib.Omega.{arith}
 use Rattle.refusal.specs.Numbers.{refusalNumber}
 use Rattle.refusal.specs.declared.Refusal.{Refusal}
-use Rattle.refusal.specs.declared.Refusal.the-variants.{YearOutOfRange, MonthOutOfRange, DayOutOfRange, OutOfRange, TimeOutOfRange, PositionOutOfRange, BufferTooShort, MalformedLabel, ConstantOutOfLimits, DifferenceBelowBound, NoDifferenceUpToBound, UnequalLengths, MalformedTiming, ClockOutOfRange}
+use Rattle.refusal.specs.declared.Refusal.the-variants.{YearOutOfRange, MonthOutOfRange, DayOutOfRange, OutOfRange, TimeOutOfRange, PositionOutOfRange, BufferTooShort, MalformedLabel, ConstantOutOfLimits, DifferenceBelowBound, NoDifferenceUpToBound, UnequalLengths, MalformedTiming, ClockOutOfRange, OutOfOrder}
 
-pub number-le : (r : Refusal) → refusalNumber r ≤ 14
+pub number-le : (r : Refusal) → refusalNumber r ≤ 15
 number-le YearOutOfRange = omega arith
 number-le MonthOutOfRange = omega arith
 number-le DayOutOfRange = omega arith
@@ -20,3 +20,4 @@ number-le NoDifferenceUpToBound = omega arith
 number-le UnequalLengths = omega arith
 number-le MalformedTiming = omega arith
 number-le ClockOutOfRange = omega arith
+number-le OutOfOrder = omega arith

@@ -1,7 +1,7 @@
 // The numbered refusals of document 01, "The numbered refusals", those that document 02 adds, and the answer of a number or a refusal
 // that the crates share.
 //
-//     number(refusal)        its number, 1 to 14
+//     number(refusal)        its number, 1 to 15
 
 ghost use mathlib.Core.Path.{_≡_};
 ghost use Rattle.refusal.specs.Numbers.{refusalNumber};
@@ -35,6 +35,8 @@ pub enum Refusal {
     MalformedTiming,
     // 14: value of the transport clock outside 0..2^33 - 1, or its position outside 0..2^53
     ClockOutOfRange,
+    // 15: index instant smaller than the one before it
+    OutOfOrder,
 }
 
 pub enum NumberAnswer {
@@ -42,7 +44,7 @@ pub enum NumberAnswer {
     Refused(Refusal),
 }
 
-// The number of a refusal, 1 to 14.
+// The number of a refusal, 1 to 15.
 pub fn number(refusal: Refusal) -> u64
     ensures { λ r. ⌜ r ≡ refusalNumber refusal ⌝ }
 {
@@ -61,5 +63,6 @@ pub fn number(refusal: Refusal) -> u64
         Refusal::UnequalLengths => 12,
         Refusal::MalformedTiming => 13,
         Refusal::ClockOutOfRange => 14,
+        Refusal::OutOfOrder => 15,
     }
 }
