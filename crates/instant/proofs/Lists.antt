@@ -13,7 +13,7 @@ use lib.Seq.{drop-cons, paste, paste-suc, take-all}
 use borrow.Author.Tests.{eq-eqb, ne-eqb, lt-ltb, le-ltb}
 use Rattle.refusal.specs.Outcome.{Outcome, value, refused, refusedAt, afterCall}
 use Rattle.instant.specs.Instant.{dayOf}
-use Rattle.instant.specs.Answers.{badInstant, firstBad, indexDaysAnswer, indexDays}
+use Rattle.instant.specs.Answers.{badInstant, firstBad, firstFall, indexDaysAnswer, indexDays}
 
 -- at place i of a list
 module _ (s : List ℤ) (i : ℕ) where
@@ -42,7 +42,7 @@ bad-le (instant ∷ s) = go (badInstant instant) (bad-le s)
     go true h = omega arith
     go false h = omega arith
 
-none-here : (t : Bool) (m n : ℕ) → cond t 0 (suc m) ≡ suc n → (t ≡ false) × (m ≡ n)
+pub none-here : (t : Bool) (m n : ℕ) → cond t 0 (suc m) ≡ suc n → (t ≡ false) × (m ≡ n)
 none-here true m n e = absurd (omega arith)
 none-here false m n e = (refl, omega arith)
 
@@ -59,30 +59,32 @@ module _ (instants days : List ℤ) where
   unequal h = rw (ne-eqb (length instants) (length days) h)
 
   module _ (h : length instants ≡ length days) where
-    decided : (t : Bool) → ltb (firstBad instants) (length instants) ≡ t → indexDaysAnswer instants days ≡ cond t (refusedAt 4 (firstBad instants)) (value (length instants))
-    unfolding indexDaysAnswer
-    decided t e = rw (eq-eqb (length instants) (length days) h, e)
-
     pub bad-found : firstBad instants < length instants → indexDaysAnswer instants days ≡ refusedAt 4 (firstBad instants)
-    bad-found l = decided true (lt-ltb (firstBad instants) (length instants) l)
+    unfolding indexDaysAnswer
+    bad-found l = rw (eq-eqb (length instants) (length days) h, lt-ltb (firstBad instants) (length instants) l)
 
-    pub none-found : length instants ≤ firstBad instants → indexDaysAnswer instants days ≡ value (length instants)
-    none-found l = decided false (le-ltb (firstBad instants) (length instants) l)
+    module _ (good : length instants ≤ firstBad instants) where
+      pub fall-found : firstFall instants < length instants → indexDaysAnswer instants days ≡ refusedAt 15 (firstFall instants)
+      unfolding indexDaysAnswer
+      fall-found l =
+          rw (eq-eqb (length instants) (length days) h, le-ltb (firstBad instants) (length instants) good, lt-ltb (firstFall instants) (length instants) l)
+
+      pub none-found : length instants ≤ firstFall instants → indexDaysAnswer instants days ≡ value (length instants)
+      unfolding indexDaysAnswer
+      none-found l =
+          rw (eq-eqb (length instants) (length days) h, le-ltb (firstBad instants) (length instants) good, le-ltb (firstFall instants) (length instants) l)
 
   pub held : (o : Outcome ℕ) → indexDaysAnswer instants days ≡ o → indexDays instants days ≡ afterCall o (λ count. map dayOf instants) days
   unfolding indexDays
   held o e = ap (λ o. afterCall o (λ count. map dayOf instants) days) e
 
--- a list that is filled from the front
-module _ (f : ℤ → ℤ) (s d : List ℤ) (h : length s ≡ length d) where
-  pub filled-one : (i : ℕ) (v : ℤ) → i < length s → v ≡ f (getD s i (pos 0)) → set (paste d 0 (map f s) i) i v ≡ paste d 0 (map f s) (i + 1)
-  filled-one i v l e =
-      let k : i < length (map f s) = omega (arith, length-map s f) in
-      ap (λ (v : ℤ). set (paste d 0 (map f s) i) i v) (e ∙ sym (List·getD-map f s i (pos 0)))
-      ∙ ap (λ (j : ℕ). set (paste d 0 (map f s) i) j (getD (map f s) i (f (pos 0)))) (sym (zero-add i))
-      ∙ paste-suc d 0 (map f s) i (f (pos 0)) (omega arith) k ∙ ap (paste d 0 (map f s)) (sym (add-one i))
+-- a list d that is filled with t from the front
+module _ (t d : List ℤ) (h : length t ≡ length d) where
+  pub filled-one : (i : ℕ) (v z : ℤ) → i < length d → v ≡ getD t i z → set (paste d 0 t i) i v ≡ paste d 0 t (i + 1)
+  filled-one i v z l e =
+      ap (λ (v : ℤ). set (paste d 0 t i) i v) e ∙ ap (λ (j : ℕ). set (paste d 0 t i) j (getD t i z)) (sym (zero-add i))
+      ∙ paste-suc d 0 t i z (omega arith) (omega arith) ∙ ap (paste d 0 t) (sym (add-one i))
 
-  pub filled : (i : ℕ) → length s ≤ i → paste d 0 (map f s) i ≡ map f s
+  pub filled : (i : ℕ) → length d ≤ i → paste d 0 t i ≡ t
   filled i l =
-      ap (λ (r : List ℤ). take i (map f s) ++ r) (drop-of-length-le d {i = 0 + i} (omega arith)) ∙ append-nil (take i (map f s))
-      ∙ take-all i (map f s) (omega (arith, length-map s f))
+      ap (λ (r : List ℤ). take i t ++ r) (drop-of-length-le d {i = 0 + i} (omega arith)) ∙ append-nil (take i t) ∙ take-all i t (omega arith)

@@ -6,6 +6,7 @@ use mathlib.Core.List.{List, [], _∷_, map}
 use lib.Dec.{eqb, ltb}
 use lib.IntN.{ℤ, pos}
 use lib.ListN.{length}
+use lib.Signed.{ltZ}
 use Rattle.refusal.specs.Numbers.{refusalNumber}
 use Rattle.refusal.specs.Outcome.{Outcome, value, refused, refusedAt, afterCall}
 use Rattle.numbers.specs.Range.{outside}
@@ -56,11 +57,19 @@ unfoldable pub firstBad : (instants : List ℤ) → ℕ
 firstBad [] = 0
 firstBad (instant ∷ instants) = cond (badInstant instant) 0 (suc (firstBad instants))
 
--- 12 for lists of unequal length, then 4 with the place of the first instant outside the range; else how many days are written
+-- the place, from 0, of the first instant smaller than the one before it; the length where there is none
+unfoldable pub firstFall : (instants : List ℤ) → ℕ
+firstFall [] = 0
+firstFall (instant ∷ []) = 1
+firstFall (instant ∷ (next ∷ instants)) = cond (ltZ next instant) 1 (suc (firstFall (next ∷ instants)))
+
+-- 12 for lists of unequal length, then 4 with the place of the first instant outside the range, then 15 with the place of the first
+-- instant smaller than the one before it; else how many days are written
 unfoldable pub indexDaysAnswer : (instants days : List ℤ) → Outcome ℕ
 indexDaysAnswer instants days =
     cond (not (eqb (length instants) (length days))) (refused 12)
-    (cond (ltb (firstBad instants) (length instants)) (refusedAt 4 (firstBad instants)) (value (length instants)))
+    (cond (ltb (firstBad instants) (length instants)) (refusedAt 4 (firstBad instants))
+    (cond (ltb (firstFall instants) (length instants)) (refusedAt 15 (firstFall instants)) (value (length instants))))
 
 -- what the second list holds after the call: the day of each instant, in order
 unfoldable pub indexDays : (instants days : List ℤ) → List ℤ

@@ -2,5 +2,6 @@
 pub mod Units
 pub mod Instant
 pub mod Answers
+pub mod Order
 -- What only proofs and private contracts need.
 pub mod Checked

@@ -3,7 +3,7 @@
 //     day_of_instant(instant)                                                   day count       refusal 4
 //     split_instant(instant)                                                    fields          refusal 4
 //     join_instant(year, month, day, hour, minute, second, millisecond)         instant         refusals 1, 2, 3, then 5
-//     index_days(instants, days)                                                days written    refusals 12, then 4 with the place
+//     index_days(instants, days)                                                days written    refusals 12, then 4 and 15 with the place
 //
 // The module `units` has the units of an instant and its range.
 
@@ -102,9 +102,12 @@ pub fn index_days(instants: &[i64], days: &mut [i32]) -> IndexAnswer
     if count != days.len() {
         return IndexAnswer::Refused(Refusal::UnequalLengths);
     }
-    let place = index::first_bad(instants);
-    if place < count {
-        return IndexAnswer::RefusedAt(Refusal::OutOfRange, place);
+    if index::is_faulty(instants) {
+        let bad = index::first_bad(instants);
+        if bad < count {
+            return IndexAnswer::RefusedAt(Refusal::OutOfRange, bad);
+        }
+        return IndexAnswer::RefusedAt(Refusal::OutOfOrder, index::first_fall(instants));
     }
     index::fill_days(instants, days);
     IndexAnswer::Written(count)

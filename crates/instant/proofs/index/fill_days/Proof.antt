@@ -1,80 +1,144 @@
 -- The list is the days of the first i instants, and behind them what it held before.
 use Rattle.instant.specs.Instant.{dayOf}
-use Rattle.instant.proofs.Lists.{all-good, filled-one, filled}
-use Rattle.instant.proofs.Ranges.{day-fits}
-use Rattle.numbers.proofs.Machine.{read}
-use mir.Facts.{toZ-ofZ}
-use mir.Val.{SFits, toZ, ofZ}
-use mir.Syntax.{w32, w64}
-use lib.IntN.{ℤ, pos}
-use lib.ListN.{length, getD, set, length-set}
+use Rattle.instant.proofs.Lists.{filled}
+use Rattle.instant.proofs.Blocks.{part-length, part-in-range, part-never-falls, filled-part}
+use lib.ListN.{length, take, drop, length-map}
 use lib.Seq.{paste, paste-zero}
-use Prim.Native.Nat.{_-_, _≤_}
+use Prim.Native.Nat.{_+_, _-_, _≤_}
 use native.Mathlib.Omega.{arith}
-use mathlib.Core.List.{List, map}
-use mathlib.Core.Path.{_≡_, refl, sym, ap, _∙_, subst}
+use mathlib.Core.List.{map}
+use mathlib.Core.Path.{_≡_, refl, sym, ap, _∙_}
 use borrow.Author.Needs.{needs}
+use borrow.Rule.Slice.PartMut.{putMid}
 use Rattle.instant.proofs.index.fill_days.Statement.{statement}
 use Rattle.instant.proofs.index.fill_days.Tie as tie
 
 abbrev Inv-loop : tie.InvT-loop
-Inv-loop instants days₀ i₀ days i = (i ≤ length instants) × ((length days ≡ length days₀) × (days ≡ paste days₀ 0 (map dayOf instants) i))
+Inv-loop instants days₀ count i₀ days i =
+    (i ≤ length instants) × ((length days ≡ length days₀) × (days ≡ paste days₀ 0 (map dayOf instants) i))
 
 abbrev μ-loop : tie.MeasureT-loop
-μ-loop instants days₀ i₀ days i = length instants - i
+μ-loop instants days₀ count i₀ days i = length instants - i
 
 loop-holds : tie.Need-loop-holds Inv-loop μ-loop
 loop-holds c = (omega arith, (refl, paste-zero (c .args .days .now) 0 (map dayOf (c .args .instants .now))))
 
-mul-day : tie.Need-mul-day Inv-loop μ-loop
-mul-day c = search needs
+sub-loop : tie.Need-sub-loop Inv-loop μ-loop
+sub-loop c = search needs
 
-shared-slice-copy-out-day : tie.Need-shared-slice-copy-out-day Inv-loop μ-loop
-shared-slice-copy-out-day c = search needs
+add-end : tie.Need-add-end Inv-loop μ-loop
+add-end c = search needs
 
-day-requires : tie.Need-day-requires Inv-loop μ-loop
-day-requires c κs = search needs
+mul-fill-block : tie.Need-mul-fill-block Inv-loop μ-loop
+mul-fill-block c = search needs
 
--- the day that is stored
-day-is : (c : tie.After-day Inv-loop μ-loop) → read (c .day .result) ≡ dayOf (getD (c .before .before .before .before .args .instants .now) (c .before .before .before .loop .i) (pos 0))
-day-is c = let f : SFits w64 (c .day .result) = search needs in
-    let g : SFits w64 (getD (c .before .before .before .before .args .instants .now) (c .before .before .before .loop .i) (pos 0)) = search needs in
-    toZ-ofZ f ∙ c .day .ensures ∙ ap dayOf (toZ-ofZ g)
+sub-fill-block : tie.Need-sub-fill-block Inv-loop μ-loop
+sub-fill-block c = search needs
 
-cast-days : tie.Need-cast-days Inv-loop μ-loop
-cast-days c = let s = c .before .before .before .before in
-    let i = c .before .before .before .loop .i in
-    subst (SFits w32) (sym (day-is c)) (day-fits (getD (s .args .instants .now) i (pos 0)) (all-good (s .args .instants .now) (s .pre .1) i (omega arith)))
+part-fill-block-start : tie.Need-part-fill-block-start Inv-loop μ-loop
+part-fill-block-start c = search needs
 
-mul-t10 : tie.Need-mul-t10 Inv-loop μ-loop
-mul-t10 c = search needs
+part-fill-block-end : tie.Need-part-fill-block-end Inv-loop μ-loop
+part-fill-block-end c = search needs
 
-slice-set-from-days : tie.Need-slice-set-from-days Inv-loop μ-loop
-slice-set-from-days c = search needs
+mul-fill-block-2 : tie.Need-mul-fill-block-2 Inv-loop μ-loop
+mul-fill-block-2 c = search needs
 
-add-i : tie.Need-add-i Inv-loop μ-loop
-add-i c = search needs
+sub-fill-block-2 : tie.Need-sub-fill-block-2 Inv-loop μ-loop
+sub-fill-block-2 c = search needs
+
+part-fill-block-start-2 : tie.Need-part-fill-block-start-2 Inv-loop μ-loop
+part-fill-block-start-2 c = search needs
+
+part-fill-block-end-2 : tie.Need-part-fill-block-end-2 Inv-loop μ-loop
+part-fill-block-end-2 c = search needs
+
+fill-block-requires : tie.Need-fill-block-requires Inv-loop μ-loop
+fill-block-requires c κs =
+    let l = c .before .before .before .loop in
+    let s = c .before .before .before .before in
+    let n : l .i + 16 ≤ length (s .args .instants .now) = omega arith in
+    let d : l .i + 16 ≤ length (l .days) = omega (arith, l .inv .1 .0, s .pre .0) in
+    let p = part-length (s .args .instants .now) (l .i) (l .i + 16) (omega arith) n in (
+      omega (arith, p),
+      (
+        p ∙ sym (part-length (l .days) (l .i) (l .i + 16) (omega arith) d),
+        (
+          part-in-range (s .args .instants .now) (l .i) (l .i + 16) (omega arith) n (s .pre .1 .0),
+          part-never-falls (s .args .instants .now) (l .i) (l .i + 16) (omega arith) n (s .pre .1 .1),
+        ),
+      ),
+    )
 
 loop-less : tie.Need-loop-less Inv-loop μ-loop
 loop-less c = search needs
 
 loop-again : tie.Need-loop-again Inv-loop μ-loop
-loop-again c = let s = c .before .before .before .before in
-    let l = c .before .before .before .loop in (
-      omega arith,
+loop-again c =
+    let l = c .before .before .before .before .before .loop in
+    let s = c .before .before .before .before .before .before in
+    let n : l .i + 16 ≤ length (s .args .instants .now) = omega arith in
+    let e = c .before .fill-block .ensures in
+    let whole = filled-part dayOf (s .args .instants .now) (s .args .days .now) (s .pre .0) (l .i) (l .i + 16) (omega arith) n (l .days) (l .inv .1 .1) in (
+      n,
       (
-        simp length-set (l .inv .1 .0),
-        ap (λ (d : List ℤ). set d (l .i) (toZ w32 (ofZ w32 (read (c .day .result))))) (l .inv .1 .1)
-            ∙ filled-one dayOf (s .args .instants .now) (s .args .days .now) (s .pre .0) (l .i) _ (omega arith) (toZ-ofZ (cast-days c) ∙ day-is c),
+        c .days .given .1 ∙ l .inv .1 .0,
+        ap (putMid (l .i) (l .i + 16 - l .i) (l .days)) e ∙ whole,
       ),
+    )
+
+mul-fill-each : tie.Need-mul-fill-each Inv-loop μ-loop
+mul-fill-each c = search needs
+
+sub-fill-each : tie.Need-sub-fill-each Inv-loop μ-loop
+sub-fill-each c = search needs
+
+part-fill-each-start : tie.Need-part-fill-each-start Inv-loop μ-loop
+part-fill-each-start c = search needs
+
+part-fill-each-end : tie.Need-part-fill-each-end Inv-loop μ-loop
+part-fill-each-end c = search needs
+
+mul-fill-each-2 : tie.Need-mul-fill-each-2 Inv-loop μ-loop
+mul-fill-each-2 c = search needs
+
+sub-fill-each-2 : tie.Need-sub-fill-each-2 Inv-loop μ-loop
+sub-fill-each-2 c = search needs
+
+part-fill-each-start-2 : tie.Need-part-fill-each-start-2 Inv-loop μ-loop
+part-fill-each-start-2 c = search needs
+
+part-fill-each-end-2 : tie.Need-part-fill-each-end-2 Inv-loop μ-loop
+part-fill-each-end-2 c = search needs
+
+fill-each-requires : tie.Need-fill-each-requires Inv-loop μ-loop
+fill-each-requires c κs =
+    let l = c .before .before .before .loop in
+    let s = c .before .before .before .before in
+    let n = length (s .args .instants .now) in
+    let le : n ≤ n = omega arith in
+    let m : length (l .days) ≤ length (l .days) = omega arith in
+    let same : length (l .days) ≡ n = l .inv .1 .0 ∙ sym (s .pre .0) in (
+      part-length (s .args .instants .now) (l .i) n (l .inv .0) le ∙ ap (λ k. k - l .i) (sym same)
+          ∙ sym (part-length (l .days) (l .i) (length (l .days)) (omega (arith, same)) m),
+      part-in-range (s .args .instants .now) (l .i) n (l .inv .0) le (s .pre .1 .0),
     )
 
 same-length : tie.Need-same-length Inv-loop μ-loop
 same-length c = search needs
 
 returns : tie.Need-returns Inv-loop μ-loop
-returns c = let l = c .before .loop in
-    l .inv .1 .1 ∙ filled dayOf (c .before .before .args .instants .now) (c .before .before .args .days .now) (c .before .before .pre .0) (l .i) (omega arith)
+returns c =
+    let l = c .before .before .before .before .before .loop in
+    let s = c .before .before .before .before .before .before in
+    let e = c .before .fill-each .ensures in
+    let same : length (l .days) ≡ length (s .args .instants .now) = l .inv .1 .0 ∙ sym (s .pre .0) in
+    let whole = filled-part dayOf (s .args .instants .now) (s .args .days .now) (s .pre .0) (l .i) (length (s .args .instants .now)) (l .inv .0) (omega arith) (l .days) (l .inv .1 .1) in
+    ap (putMid (l .i) (length (l .days) - l .i) (l .days)) e
+    ∙ ap (λ n. putMid (l .i) (n - l .i) (l .days) (map dayOf (take (length (s .args .instants .now) - l .i) (drop (l .i) (s .args .instants .now))))) same
+    ∙ whole
+    ∙ filled (map dayOf (s .args .instants .now)) (s .args .days .now) (length-map (s .args .instants .now) dayOf ∙ s .pre .0) (length (s .args .instants .now))
+    (omega (arith, s .pre .0))
 
 pub fill-days-spec : {M : Type 1} → statement M
 fill-days-spec =
@@ -83,14 +147,27 @@ fill-days-spec =
     Inv-loop
     μ-loop
     loop-holds
-    mul-day
-    shared-slice-copy-out-day
-    day-requires
-    cast-days
-    mul-t10
-    slice-set-from-days
-    add-i
+    sub-loop
+    add-end
+    mul-fill-block
+    sub-fill-block
+    part-fill-block-start
+    part-fill-block-end
+    mul-fill-block-2
+    sub-fill-block-2
+    part-fill-block-start-2
+    part-fill-block-end-2
+    fill-block-requires
     loop-less
     loop-again
+    mul-fill-each
+    sub-fill-each
+    part-fill-each-start
+    part-fill-each-end
+    mul-fill-each-2
+    sub-fill-each-2
+    part-fill-each-start-2
+    part-fill-each-end-2
+    fill-each-requires
     same-length
     returns)

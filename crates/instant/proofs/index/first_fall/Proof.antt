@@ -1,0 +1,81 @@
+-- The first fall is `place` and the first fall of what is left from there on.
+use Rattle.instant.specs.Answers.{firstFall}
+use Rattle.instant.proofs.Falls.{fall-end, fall-here, fall-later, both-compared}
+use mir.Val.{SFits}
+use mir.Syntax.{w64}
+use lib.IntN.{pos}
+use lib.ListN.{length, getD, drop}
+use Prim.Native.Nat.{_+_, _-_, _≤_}
+use native.Mathlib.Omega.{arith}
+use mathlib.Core.Path.{_≡_}
+use borrow.Author.Needs.{needs}
+use Rattle.instant.proofs.index.first_fall.Statement.{statement}
+use Rattle.instant.proofs.index.first_fall.Tie as tie
+
+abbrev Inv-loop : tie.InvT-loop
+Inv-loop instants count place₀ place = (place ≤ length instants) × (firstFall instants ≡ place + firstFall (drop place instants))
+
+abbrev μ-loop : tie.MeasureT-loop
+μ-loop instants count place₀ place = length instants - place
+
+loop-holds : tie.Need-loop-holds Inv-loop μ-loop
+loop-holds c = (omega arith, omega arith)
+
+sub-loop : tie.Need-sub-loop Inv-loop μ-loop
+sub-loop c = search needs
+
+add-next : tie.Need-add-next Inv-loop μ-loop
+add-next c = search needs
+
+mul-if1 : tie.Need-mul-if1 Inv-loop μ-loop
+mul-if1 c = search needs
+
+shared-slice-copy-out-if1 : tie.Need-shared-slice-copy-out-if1 Inv-loop μ-loop
+shared-slice-copy-out-if1 c = search needs
+
+mul-if1-2 : tie.Need-mul-if1-2 Inv-loop μ-loop
+mul-if1-2 c = search needs
+
+shared-slice-copy-out-if1-2 : tie.Need-shared-slice-copy-out-if1-2 Inv-loop μ-loop
+shared-slice-copy-out-if1-2 c = search needs
+
+returns : tie.Need-returns Inv-loop μ-loop
+returns c = let l = c .before .before .before .before .loop in
+    let s = c .before .before .before .before .before .args .instants .now in
+    let f : SFits w64 (getD s (l .place + 1) (pos 0)) = search needs in
+    let g : SFits w64 (getD s (l .place) (pos 0)) = search needs in
+    let e = fall-here s (l .place) (omega arith) (both-compared f g (c .if1 .taken)) in
+    omega (arith, l .inv .1)
+
+loop-less : tie.Need-loop-less Inv-loop μ-loop
+loop-less c = search needs
+
+loop-again : tie.Need-loop-again Inv-loop μ-loop
+loop-again c = let l = c .before .before .before .before .loop in
+    let s = c .before .before .before .before .before .args .instants .now in
+    let f : SFits w64 (getD s (l .place + 1) (pos 0)) = search needs in
+    let g : SFits w64 (getD s (l .place) (pos 0)) = search needs in
+    let e = fall-later s (l .place) (omega arith) (both-compared f g (c .if1 .left)) in
+    (omega arith, omega (arith, l .inv .1))
+
+returns-2 : tie.Need-returns-2 Inv-loop μ-loop
+returns-2 c = let l = c .before .loop in
+    omega (arith, l .inv .1, fall-end (c .before .before .args .instants .now) (l .place) (l .inv .0) (omega arith))
+
+pub first-fall-spec : {M : Type 1} → statement M
+first-fall-spec =
+    tie.close
+    (tie.spec
+    Inv-loop
+    μ-loop
+    loop-holds
+    sub-loop
+    add-next
+    mul-if1
+    shared-slice-copy-out-if1
+    mul-if1-2
+    shared-slice-copy-out-if1-2
+    returns
+    loop-less
+    loop-again
+    returns-2)
