@@ -15,7 +15,7 @@ use mir.Facts.{toZ-ofZ}
 use Rattle.refusal.specs.Outcome.{Outcome, value, refused, refusedAt, mapValue}
 use Rattle.numbers.proofs.Machine.{read}
 use Rattle.refusal.proofs.Outcomes.{clash}
-use Rattle.instant.specs.Answers.{firstBad, indexDaysAnswer}
+use Rattle.instant.specs.Answers.{firstBad, firstFall, indexDaysAnswer}
 use Rattle.labels.specs.Written.{bytesWritten}
 use Rattle.constants.specs.Least.{Found, at, none, leastBelow}
 use Rattle.constants.specs.Limits.{outsideLimits, endOutside, boundOutside}
@@ -39,7 +39,7 @@ pub bytes-fit :
     (n : ℕ) → outcome ≡ value n → n < 2 ^ 63
 bytes-fit label buffer small same n e = let w = bytes-within label buffer n (sym same ∙ e) in omega arith
 
--- as many days are written as there are instants, and the place of a bad instant is among them
+-- as many days are written as there are instants, and a place that is handed back is one of them
 module _ (instants days : List ℤ) (small : length instants < 2 ^ 63) where
   Fit : Outcome ℕ → Type 0
   Fit (value n) = n < 2 ^ 63
@@ -48,14 +48,16 @@ module _ (instants days : List ℤ) (small : length instants < 2 ^ 63) where
 
   index-fits : Fit (indexDaysAnswer instants days)
   unfolding indexDaysAnswer Fit
-  index-fits = go (not (eqb (length instants) (length days))) (ltb (firstBad instants) (length instants)) refl
+  index-fits =
+      go (not (eqb (length instants) (length days))) (ltb (firstBad instants) (length instants)) (ltb (firstFall instants) (length instants)) refl refl
     where
       go :
-          (unequal bad : Bool) → ltb (firstBad instants) (length instants) ≡ bad →
-          Fit (cond unequal (refused 12) (cond bad (refusedAt 4 (firstBad instants)) (value (length instants))))
-      go true bad h = tt
-      go false true h = omega (arith, ltb-true (firstBad instants) (length instants) h)
-      go false false h = small
+          (unequal bad falls : Bool) → ltb (firstBad instants) (length instants) ≡ bad → ltb (firstFall instants) (length instants) ≡ falls →
+          Fit (cond unequal (refused 12) (cond bad (refusedAt 4 (firstBad instants)) (cond falls (refusedAt 15 (firstFall instants)) (value (length instants)))))
+      go true bad falls h k = tt
+      go false true falls h k = omega (arith, ltb-true (firstBad instants) (length instants) h)
+      go false false true h k = omega (arith, ltb-true (firstFall instants) (length instants) k)
+      go false false false h k = small
 
   pub count-fits : {outcome : Outcome ℕ} → outcome ≡ indexDaysAnswer instants days → (n : ℕ) → outcome ≡ value n → n < 2 ^ 63
   unfolding Fit

@@ -18,7 +18,7 @@ use Rattle.calendar.specs.Count.{weekday, dayOfYear}
 use Rattle.calendar.specs.Answers.{daysAnswer, civilAnswer, weekdayAnswer, leapAnswer, lastDayAnswer, dayOfYearAnswer, addDaysAnswer, ofDate}
 use Rattle.calendar.specs.declared.Date.{Date}
 use Rattle.calendar.proofs.Laws.{weekday-is-in-range, day-of-year-is-in-range}
-use Rattle.instant.specs.Answers.{badInstant, badTime, firstBad, dayAnswer, splitAnswer, joinAnswer, indexDaysAnswer}
+use Rattle.instant.specs.Answers.{badInstant, badTime, firstBad, firstFall, dayAnswer, splitAnswer, joinAnswer, indexDaysAnswer}
 use Rattle.labels.specs.Digits.{fits}
 use Rattle.labels.specs.Written.{bytesWritten}
 use Rattle.labels.specs.Rfc3339.{decimals, dateShape, timeShape, labelText, instantLabel, readAnswer}
@@ -137,7 +137,8 @@ pub index-tells : (instants days : List ℤ) → Tells returnedCount (indexDaysA
 unfolding indexDaysAnswer
 index-tells instants days =
     guarded returnedCount (not (eqb (length instants) (length days))) _ _ (told refl)
-    (guarded returnedCount (ltb (firstBad instants) (length instants)) _ _ (told refl) (told refl))
+    (guarded returnedCount (ltb (firstBad instants) (length instants)) _ _ (told refl)
+    (guarded returnedCount (ltb (firstFall instants) (length instants)) _ _ (told refl) (told refl)))
 
 -- ---- labels
 

@@ -11,7 +11,7 @@
 //     ovenquill_day_of_instant(instant, days)                                 0, and the day count
 //     ovenquill_split_instant(instant, fields)                                0, and year to millisecond
 //     ovenquill_join_instant(year, .., millisecond, instant)                  0, and the instant
-//     ovenquill_index_days(instants, days, place)                             the days written; a refusal 4 puts the place in `place`
+//     ovenquill_index_days(instants, days, place)                             the days written; a refusal 4 or 15 puts the place in `place`
 //     ovenquill_write_instant(instant, out)                                   the bytes written
 //     ovenquill_read_instant(label, instant)                                  0, and the instant
 //     ovenquill_write_position(position, out)                                 the bytes written
