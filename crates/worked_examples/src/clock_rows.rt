@@ -3,6 +3,7 @@
 use super::show::natural;
 use super::show::number;
 use super::show::refused;
+use super::show::spaced_numbers;
 use super::show::text;
 use transport::Clock;
 use transport::PositionAnswer;
@@ -81,14 +82,4 @@ fn values(clock: Clock, list: &[i64]) {
     let end = batch.clock;
     clock_words(end);
     text(b"\n");
-}
-
-// Each number, with a blank before it.
-fn spaced_numbers(list: &[i64]) {
-    let mut i = 0;
-    while i < list.len() {
-        text(b" ");
-        number(list[i]);
-        i += 1;
-    }
 }

@@ -1,9 +1,11 @@
-// Document 01's rows of instants and of the index, both ends of the range and the instants just outside it.
+// Document 01's rows of instants and of the index, both ends of the range and the instants just outside it, and an index that falls,
+// one that does not, and one with a fall and a bad instant.
 
 use super::show::natural;
 use super::show::number;
 use super::show::number_answer;
 use super::show::refused;
+use super::show::spaced_numbers;
 use super::show::text;
 use instant::Fields;
 use instant::FieldsAnswer;
@@ -24,8 +26,11 @@ pub fn run() {
     joined(2016, 12, 31, 23, 59, 60, 0);
     joined(2016, 12, 32, 23, 59, 60, 0);
     joined(2016, 12, 31, 24, 0, 0, 0);
-    index();
-    bad_index();
+    index(&[-1, 0, 86399999, 86400000], &mut [7; 4]);
+    index(&[0, 253402300800000], &mut [7; 2]);
+    index(&[0, 86400000, 86399999], &mut [7; 3]);
+    index(&[5, 5], &mut [7; 2]);
+    index(&[1, 0, 253402300800000], &mut [7; 3]);
     empty_index();
     uneven_index();
 }
@@ -72,29 +77,23 @@ fn joined(year: i64, month: i64, day: i64, hour: i64, minute: i64, second: i64, 
     text(b"\n");
 }
 
-fn index() {
-    text(b"index -1 0 86399999 86400000: ");
-    let instants = [-1i64, 0, 86399999, 86400000];
-    let mut days = [7i32; 4];
-    index_answer(instant::index_days(&instants, &mut days));
+// An index, its answer, and what its days are then; they begin as 7.
+fn index(instants: &[i64], days: &mut [i32]) {
+    text(b"index");
+    spaced_numbers(instants);
+    text(b": ");
+    index_answer(instant::index_days(instants, days));
     text(b", days");
-    day(days[0]);
-    day(days[1]);
-    day(days[2]);
-    day(days[3]);
+    spaced_days(days);
     text(b"\n");
 }
 
-// The second instant lies outside the range: no day is written.
-fn bad_index() {
-    text(b"index 0 253402300800000: ");
-    let instants = [0i64, 253402300800000];
-    let mut days = [7i32; 2];
-    index_answer(instant::index_days(&instants, &mut days));
-    text(b", days");
-    day(days[0]);
-    day(days[1]);
-    text(b"\n");
+fn spaced_days(days: &[i32]) {
+    let mut i = 0;
+    while i < days.len() {
+        day(days[i]);
+        i += 1;
+    }
 }
 
 fn day(n: i32) {

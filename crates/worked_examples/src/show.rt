@@ -19,6 +19,16 @@ pub fn number(n: i64) {
     }
 }
 
+// Each number, with a blank before it.
+pub fn spaced_numbers(list: &[i64]) {
+    let mut i = 0;
+    while i < list.len() {
+        text(b" ");
+        number(list[i]);
+        i += 1;
+    }
+}
+
 pub fn natural(n: u64) {
     io::print_decimal(libc::STDOUT_FILENO, n);
 }

@@ -3,8 +3,8 @@ use Prim.Native.Nat.{_-_, _≤_}
 use native.Mathlib.Omega.{arith}
 use lib.ListN.{length}
 use borrow.Author.Needs.{needs}
-use Rattle.worked_examples.proofs.clock_rows.spaced_numbers.Statement.{statement}
-use Rattle.worked_examples.proofs.clock_rows.spaced_numbers.Tie as tie
+use Rattle.worked_examples.proofs.show.spaced_numbers.Statement.{statement}
+use Rattle.worked_examples.proofs.show.spaced_numbers.Tie as tie
 
 abbrev Inv-loop : tie.InvT-loop
 Inv-loop list i₀ blank i = i ≤ length list
