@@ -13,8 +13,9 @@
  *
  * Every call returns 0 or more where it is done, and below 0 where it is refused: the refusal's number negated, which has a
  * macro below. The refusals of a call are listed in the order in which they are looked for; the first whose cause holds is
- * answered. Two refusals hand back more than their number: each writes that to a number of its own, `place` or `least`, which
- * is unchanged after every other answer. Nothing else that was lent to a refused call is changed.
+ * answered. Some refusals hand back more than their number: the two about an instant of an index write where it stands to `place`,
+ * and the one of a claim with a difference below its bound writes the least input to `least`. Both are unchanged after every other
+ * answer. Nothing else that was lent to a refused call is changed.
  *
  * What is asked of the pointers that are handed in:
  *   - A pointer with a length points to that many elements. It may be null only where the length is 0.
@@ -36,7 +37,7 @@ extern "C" {
 
 /* The version of this header, in numbers and as a string. */
 #define OVENQUILL_VERSION_MAJOR 0
-#define OVENQUILL_VERSION_MINOR 5
+#define OVENQUILL_VERSION_MINOR 6
 #define OVENQUILL_VERSION_PATCH 0
 #define OVENQUILL_VERSION OVENQUILL_DOTTED_(OVENQUILL_VERSION_MAJOR, OVENQUILL_VERSION_MINOR, OVENQUILL_VERSION_PATCH)
 #define OVENQUILL_DOTTED_(major, minor, patch) OVENQUILL_STRING_(major.minor.patch)
@@ -152,6 +153,7 @@ extern "C" {
 #define OVENQUILL_UNEQUAL_LENGTHS (-12)
 #define OVENQUILL_MALFORMED_TIMING (-13)
 #define OVENQUILL_CLOCK_OUT_OF_RANGE (-14)
+#define OVENQUILL_OUT_OF_ORDER (-15)
 
 /* A refusal in words, by what a call answered. Any number may be handed in; the text is never null and is not to be freed. */
 static inline const char *ovenquill_refusal_text(int64_t answer)
@@ -191,6 +193,8 @@ static inline const char *ovenquill_refusal_text(int64_t answer)
         return "clock value outside " OVENQUILL_RANGE_TEXT_(OVENQUILL_FIRST_CLOCK_VALUE_, OVENQUILL_LAST_CLOCK_VALUE_)
                ", or position handed in or reached outside "
                OVENQUILL_RANGE_TEXT_(OVENQUILL_FIRST_CLOCK_POSITION_, OVENQUILL_LAST_CLOCK_POSITION_);
+    case OVENQUILL_OUT_OF_ORDER:
+        return "index instant smaller than the one before it";
     default:
         return answer < 0 ? "unknown refusal" : "not refused";
     }
@@ -335,13 +339,16 @@ int64_t ovenquill_join_instant(int64_t year, int64_t month, int64_t day, int64_t
                                int64_t millisecond, int64_t *instant);
 
 /*
- * The days of a recording index. Writes the day count of each instant, as ovenquill_day_of_instant gives it, to the same index
- * of `days`, and answers how many it wrote, `count`; two empty lists are accepted. `place` is then unchanged.
+ * The days of a recording index, whose instants never go down. Writes the day count of each instant, as ovenquill_day_of_instant
+ * gives it, to the same index of `days`, and answers how many it wrote, `count`; two empty lists are accepted. `place` is then
+ * unchanged. The days that are written never go down either.
  *
  * Refusals, after which no element of `days` is changed:
  *   OVENQUILL_UNEQUAL_LENGTHS   count is not days_length; `place` is unchanged
- *   OVENQUILL_OUT_OF_RANGE      an instant outside OVENQUILL_FIRST_INSTANT to OVENQUILL_LAST_INSTANT; the index of the first
- *                               such, counted from 0, is written to `place`
+ *   OVENQUILL_OUT_OF_RANGE      an instant anywhere outside OVENQUILL_FIRST_INSTANT to OVENQUILL_LAST_INSTANT; the index of the
+ *                               first such, counted from 0, is written to `place`
+ *   OVENQUILL_OUT_OF_ORDER      an instant smaller than the one before it; the index of the first such, the later of the two,
+ *                               is written to `place`. Equal instants are accepted.
  */
 int64_t ovenquill_index_days(const int64_t *instants, size_t count, int32_t *days, size_t days_length, int64_t *place);
 

@@ -121,6 +121,9 @@ pub fn join_instant(fields: Fields) -> Result<i64, Refusal> {
 /// assert_eq!((error.refusal, error.place), (Refusal::OutOfRange, Some(1)));
 /// assert_eq!(error.to_string(), format!("{}, first at place 1", error.refusal));
 ///
+/// let error = index_days(&[3, 5, 5, 4], &mut [0; 4]).unwrap_err();
+/// assert_eq!((error.refusal, error.place), (Refusal::OutOfOrder, Some(3)));
+///
 /// let error = index_days(&[0, i64::MAX], &mut [0; 3]).unwrap_err();
 /// assert_eq!((error.refusal, error.place), (Refusal::UnequalLengths, None));
 /// ```
@@ -129,7 +132,8 @@ pub fn join_instant(fields: Fields) -> Result<i64, Refusal> {
 pub struct IndexError {
     /// The refusal.
     pub refusal: Refusal,
-    /// The place of the first bad instant, counted from 0, where the refusal is about an instant.
+    /// Where the refusal is about an instant, the place of the first such, counted from 0: the first outside the range, or
+    /// the first that is smaller than the one before it.
     pub place: Option<usize>,
 }
 
@@ -151,8 +155,10 @@ impl From<IndexError> for Refusal {
 
 /// Writes the day of each instant of a recording to the same place of a second list, and answers how many it wrote.
 ///
-/// Refused are lists of unequal length ([`Refusal::UnequalLengths`]) and then an instant outside [`INSTANTS`]
-/// ([`Refusal::OutOfRange`], with the place of the first). A refused call writes no day at all.
+/// Refused are lists of unequal length ([`Refusal::UnequalLengths`]), then an instant anywhere outside [`INSTANTS`]
+/// ([`Refusal::OutOfRange`], with the place of the first), and then an instant smaller than the one before it
+/// ([`Refusal::OutOfOrder`], with the place of the first, the later of the two); equal instants are accepted. A refused call
+/// writes no day at all. The days that are written never go down either.
 ///
 /// ```
 /// use ovenquill::{index_days, Refusal};
@@ -161,8 +167,10 @@ impl From<IndexError> for Refusal {
 /// assert_eq!(index_days(&[-1, 0, 86399999, 86400000], &mut days), Ok(4));
 /// assert_eq!(days, [-1, 0, 0, 1]);
 ///
-/// let error = index_days(&[0, 0, i64::MAX, 0], &mut days).unwrap_err();
+/// let error = index_days(&[1, 0, i64::MAX, 0], &mut days).unwrap_err();
 /// assert_eq!((error.refusal, error.place), (Refusal::OutOfRange, Some(2)));
+/// let error = index_days(&[1, 0, 86400000, 0], &mut days).unwrap_err();
+/// assert_eq!((error.refusal, error.place), (Refusal::OutOfOrder, Some(1)));
 /// assert_eq!(days, [-1, 0, 0, 1]);
 /// ```
 #[inline]

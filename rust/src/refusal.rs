@@ -132,6 +132,8 @@ refusals! {
         CLOCK_POSITIONS.start(),
         CLOCK_POSITIONS.end()
     );
+    /// An index's instant is smaller than the one before it.
+    OutOfOrder = 15, ("index instant smaller than the one before it");
 }
 
 impl Error for Refusal {}
