@@ -24,6 +24,7 @@ use random::Random;
 use rivals::calendar::{BY_DIVISIONS, BY_SHIFTS};
 #[cfg(chrono)]
 use rivals::chrono;
+use rivals::instants::{BY_BLOCKS, PLAIN, WITHOUT_EARLY_EXIT};
 use rivals::labels::{BY_BYTES, BY_CENTURY, BY_WORDS};
 #[cfg(lengths)]
 use rivals::lengths;
@@ -436,18 +437,43 @@ fn timing_lines() {
 
 // The recording index
 
+/// Instants of the whole range, in order.
+fn of_any_days(random: &mut Random, length: usize) -> Vec<i64> {
+    let mut list: Vec<i64> = (0..length).map(|_| random.within(*INSTANTS.start(), *INSTANTS.end())).collect();
+    list.sort_unstable();
+    list
+}
+
+/// Instants each of which follows the one before it within a minute.
+fn a_minute_apart(random: &mut Random, length: usize) -> Vec<i64> {
+    let mut instant = random.within(*INSTANTS.start(), 0);
+    let next = |_| {
+        instant += random.within(0, instants::MINUTE);
+        instant
+    };
+    (0..length).map(next).collect()
+}
+
 fn index_lines() {
-    let mut random = Random::new(103);
-    let long: Vec<i64> = (0..MILLION).map(|_| random.within(*INSTANTS.start(), *INSTANTS.end())).collect();
-    let short: Vec<Vec<i64>> = long[..INPUTS].chunks(1024).map(<[i64]>::to_vec).collect();
-    for (list, parts) in [(vec![long; LONG_PARTS], LONG_PARTS), (short, PARTS)] {
-        let length = list[0].len();
-        line::<Index>(
-            &format!("index of {length}, for each instant"),
-            &Inputs { list: &list, parts, units: length },
-            raw::ovenquill_index_days,
-            &[("loops without an early exit", instants::index_days)],
-        );
+    let random = &mut Random::new(103);
+    for (what, list) in
+        [("of any days", of_any_days as fn(&mut Random, usize) -> Vec<i64>), ("a minute apart at most", a_minute_apart)]
+    {
+        let long = vec![list(random, MILLION); LONG_PARTS];
+        let short: Vec<Vec<i64>> = (0..INPUTS / 1024).map(|_| list(random, 1024)).collect();
+        for (list, parts) in [(long, LONG_PARTS), (short, PARTS)] {
+            let length = list[0].len();
+            line::<Index>(
+                &format!("index of {length} instants {what}, for each"),
+                &Inputs { list: &list, parts, units: length },
+                raw::ovenquill_index_days,
+                &[
+                    ("plain Rust", instants::index_days::<PLAIN>),
+                    ("Rust without an early exit", instants::index_days::<WITHOUT_EARLY_EXIT>),
+                    ("Rust, the library's steps", instants::index_days::<BY_BLOCKS>),
+                ],
+            );
+        }
     }
 }
 

@@ -63,6 +63,9 @@ module _ (instants days : List ℤ) where
   in-range : ltb (firstBad instants) (length instants) ≡ false → AllInRange instants
   in-range h = all-good instants (omega (arith, ltb-false (firstBad instants) (length instants) h, bad-le instants))
 
+  no-fall-left : ltb (firstFall instants) (length instants) ≡ false → firstFall instants ≡ length instants
+  no-fall-left h = omega (arith, ltb-false (firstFall instants) (length instants) h, fall-le instants)
+
   -- "15 and the place of the first instant smaller than the one before it", after 12 and 4
   pub fifteen-exactly :
       (place : ℕ) →
@@ -95,10 +98,7 @@ module _ (instants days : List ℤ) where
           eqb-true (length instants) (length days) (t .0),
           (
             in-range (t .1 .0),
-            (
-              never-falls instants (omega (arith, ltb-false (firstFall instants) (length instants) (t .1 .1 .0), fall-le instants)),
-              t .1 .1 .1,
-            ),
+            (never-falls instants (no-fall-left (t .1 .1 .0)), t .1 .1 .1),
           ),
         ),
     λ h.

@@ -125,10 +125,10 @@ fn fill_block(instants: &[i64], days: &mut [i32])
 fn fill_same(day: i32, days: &mut [i32])
     ensures { λ r. ⌜ now (days .exit) ≡ replicate (length (now (days .entry))) day ⌝ }
 {
-    let mut i = 0;
-    while i < days.len() {
-        days[i] = day;
-        i += 1;
+    let mut written = 0;
+    while written < days.len() {
+        days[written] = day;
+        written += 1;
     }
 }
 
@@ -136,9 +136,9 @@ fn fill_each(instants: &[i64], days: &mut [i32])
     requires { ⌜ (length (now instants) ≡ length (now days)) × AllInRange (now instants) ⌝ }
     ensures { λ r. ⌜ now (days .exit) ≡ map dayOf (now (instants .entry)) ⌝ }
 {
-    let mut i = 0;
-    while i < instants.len() {
-        days[i] = floored::day(instants[i]) as i32;
-        i += 1;
+    let mut written = 0;
+    while written < instants.len() {
+        days[written] = floored::day(instants[written]) as i32;
+        written += 1;
     }
 }

@@ -6,7 +6,7 @@ use mathlib.Core.Bool.{false, cond}
 use mathlib.Core.List.{[], _∷_}
 use lib.Dec.{T, leb, lit≤}
 use lib.IntN.{ℤ, pos, negsuc}
-use Rattle.refusal.specs.Outcome.{value, refused}
+use Rattle.refusal.specs.Outcome.{value, refused, refusedAt}
 use Rattle.numbers.specs.Range.{outside, since}
 use Rattle.calendar.specs.Range.{firstCount, lastCount}
 use Rattle.calendar.specs.Gregorian.{dateOf}
@@ -15,7 +15,7 @@ use Rattle.calendar.specs.Answers.{civilAnswer, weekdayAnswer}
 use Rattle.calendar.specs.Closed.{cycle, baseYear, leapDay, leapℕ, leaps, start, monthDays, before, dayNumber, public}
 use Rattle.calendar.proofs.Laws.{date-at}
 use Rattle.instant.specs.Instant.{dayOf, timeOf, fieldsOf, fieldsAt}
-use Rattle.instant.specs.Answers.{dayAnswer, splitAnswer}
+use Rattle.instant.specs.Answers.{firstBad, firstFall, dayAnswer, splitAnswer, indexDaysAnswer}
 use Rattle.labels.specs.Rfc3339.{numbersText, labelText, instantLabel, readAnswer}
 use Rattle.labels.specs.Webvtt.{positionLabel}
 use Rattle.labels.specs.Timestamps.{positionAnswer}
@@ -211,3 +211,13 @@ wrap-row = refl
 pub half-a-wrap-row : followAnswer (At (pos 8589934592)) (pos 4294967296) ≡ value (record { ticks = pos 4294967296; milliseconds = pos 47721858 })
 unfolding followAnswer
 half-a-wrap-row = refl
+
+-- ---- document 02, request Six: the later one's place; and a fall in front of a bad instant, which is refused with 4
+
+pub fall-row : indexDaysAnswer (pos 0 ∷ pos 86400000 ∷ pos 86399999 ∷ []) (pos 7 ∷ pos 7 ∷ pos 7 ∷ []) ≡ refusedAt 15 2
+unfolding indexDaysAnswer firstBad firstFall
+fall-row = refl
+
+pub bad-instant-row : indexDaysAnswer (pos 1 ∷ pos 0 ∷ pos 253402300800000 ∷ []) (pos 7 ∷ pos 7 ∷ pos 7 ∷ []) ≡ refusedAt 4 2
+unfolding indexDaysAnswer firstBad firstFall
+bad-instant-row = refl

@@ -82,8 +82,75 @@ pub unsafe extern "C" fn join_instant(
     to_place(instant, fields.map(|date| joined(date, hour as u32, minute as u32, second as u32, millisecond as u32)))
 }
 
+/// The index's tests one after the other, each up to the first fault, and `div_euclid`.
+pub const PLAIN: u8 = 0;
+/// The tests in one pass over the whole list, and an unsigned quotient.
+pub const WITHOUT_EARLY_EXIT: u8 = 1;
+/// The library's steps: eight neighbours compared at a time, and blocks of one day filled with it.
+pub const BY_BLOCKS: u8 = 2;
+
+/// The refusal of an index whose lists are equally long, and its place, each test up to the first fault.
+#[inline(always)]
+fn fault(instants: &[i64]) -> Option<(i64, usize)> {
+    if let Some(bad) = instants.iter().position(|&instant| checked(instant).is_err()) {
+        return Some((4, bad));
+    }
+    instants.windows(2).position(|pair| pair[1] < pair[0]).map(|before| (15, before + 1))
+}
+
+/// Whether such an index has a fault. Below zero is the sum of what lies outside or falls, in a form that becomes vector code: where
+/// every instant lies in the range, no difference wraps.
+#[inline(always)]
+fn has_fault(instants: &[i64]) -> bool {
+    let outside = |instant: i64| instant.wrapping_sub(FIRST) | LAST.wrapping_sub(instant);
+    let signs = instants.iter().fold(0, |signs, &instant| signs | outside(instant));
+    instants.windows(2).fold(signs, |signs, pair| signs | pair[1].wrapping_sub(pair[0])) < 0
+}
+
+/// The same, from the first instant of the range to the last, eight neighbours to a branch.
+#[inline(always)]
+fn falls(instants: &[i64]) -> bool {
+    let mut before = FIRST;
+    let blocks = instants.chunks_exact(8);
+    let rest = blocks.remainder();
+    for block in blocks {
+        if block[0] < before || (1..8).fold(false, |falls, i| falls | (block[i] < block[i - 1])) {
+            return true;
+        }
+        before = block[7];
+    }
+    for &instant in rest {
+        if instant < before {
+            return true;
+        }
+        before = instant;
+    }
+    LAST < before
+}
+
+#[inline(always)]
+fn fill(instants: &[i64], days: &mut [i32]) {
+    for (day, &instant) in days.iter_mut().zip(instants) {
+        *day = day_and_time(instant).0 as i32;
+    }
+}
+
+#[inline(always)]
+fn fill_blocks(instants: &[i64], days: &mut [i32]) {
+    let whole = instants.len() / 16 * 16;
+    for (block, days) in instants[..whole].chunks_exact(16).zip(days.chunks_exact_mut(16)) {
+        let first = day_and_time(block[0]).0;
+        if first == day_and_time(block[15]).0 {
+            days.fill(first as i32);
+        } else {
+            fill(block, days);
+        }
+    }
+    fill(&instants[whole..], &mut days[whole..]);
+}
+
 #[inline(never)]
-pub unsafe extern "C" fn index_days(
+pub unsafe extern "C" fn index_days<const WAY: u8>(
     instants: *const i64,
     count: usize,
     days: *mut i32,
@@ -95,17 +162,21 @@ pub unsafe extern "C" fn index_days(
     if instants.len() != days.len() {
         return -12;
     }
-    // Below zero if any instant is outside: all are tested without an early exit, in a form that becomes vector code.
-    let signs =
-        instants.iter().fold(0, |signs, instant| signs | instant.wrapping_sub(FIRST) | LAST.wrapping_sub(*instant));
-    if signs < 0 {
-        if let Some(bad) = instants.iter().position(|&instant| checked(instant).is_err()) {
-            place.write(bad as i64);
-            return -4;
+    let looked_for = match WAY {
+        PLAIN => true,
+        WITHOUT_EARLY_EXIT => has_fault(instants),
+        _ => falls(instants),
+    };
+    if looked_for {
+        if let Some((refusal, at)) = fault(instants) {
+            place.write(at as i64);
+            return -refusal;
         }
     }
-    for (day, &instant) in days.iter_mut().zip(instants) {
-        *day = day_and_time(instant).0 as i32;
+    match WAY {
+        PLAIN => days.iter_mut().zip(instants).for_each(|(day, instant)| *day = instant.div_euclid(DAY) as i32),
+        WITHOUT_EARLY_EXIT => fill(instants, days),
+        _ => fill_blocks(instants, days),
     }
     days.len() as i64
 }

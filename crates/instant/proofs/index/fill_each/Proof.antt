@@ -1,4 +1,4 @@
--- The list is the days of the first i instants, and behind them what it held before.
+-- The list is the days of the first instants, and behind them what it held before.
 use Rattle.instant.specs.Instant.{dayOf}
 use Rattle.instant.proofs.Lists.{filled-one, filled}
 use Rattle.instant.proofs.Ranges.{day-fits}
@@ -18,10 +18,10 @@ use Rattle.instant.proofs.index.fill_each.Statement.{statement}
 use Rattle.instant.proofs.index.fill_each.Tie as tie
 
 abbrev Inv-loop : tie.InvT-loop
-Inv-loop instants days₀ i₀ days i = (i ≤ length instants) × ((length days ≡ length days₀) × (days ≡ paste days₀ 0 (map dayOf instants) i))
+Inv-loop instants days₀ written₀ days written = (written ≤ length instants) × ((length days ≡ length days₀) × (days ≡ paste days₀ 0 (map dayOf instants) written))
 
 abbrev μ-loop : tie.MeasureT-loop
-μ-loop instants days₀ i₀ days i = length instants - i
+μ-loop instants days₀ written₀ days written = length instants - written
 
 as-long : (c : tie.Start Inv-loop μ-loop) → length (map dayOf (c .args .instants .now)) ≡ length (c .args .days .now)
 as-long c = length-map (c .args .instants .now) dayOf ∙ c .pre .0
@@ -39,14 +39,14 @@ day-requires : tie.Need-day-requires Inv-loop μ-loop
 day-requires c κs = search needs
 
 -- the day that is stored
-day-is : (c : tie.After-day Inv-loop μ-loop) → read (c .day .result) ≡ dayOf (getD (c .before .before .before .before .args .instants .now) (c .before .before .before .loop .i) (pos 0))
+day-is : (c : tie.After-day Inv-loop μ-loop) → read (c .day .result) ≡ dayOf (getD (c .before .before .before .before .args .instants .now) (c .before .before .before .loop .written) (pos 0))
 day-is c = let f : SFits w64 (c .day .result) = search needs in
-    let g : SFits w64 (getD (c .before .before .before .before .args .instants .now) (c .before .before .before .loop .i) (pos 0)) = search needs in
+    let g : SFits w64 (getD (c .before .before .before .before .args .instants .now) (c .before .before .before .loop .written) (pos 0)) = search needs in
     toZ-ofZ f ∙ c .day .ensures ∙ ap dayOf (toZ-ofZ g)
 
 cast-days : tie.Need-cast-days Inv-loop μ-loop
 cast-days c = let s = c .before .before .before .before in
-    let i = c .before .before .before .loop .i in
+    let i = c .before .before .before .loop .written in
     subst (SFits w32) (sym (day-is c)) (day-fits (getD (s .args .instants .now) i (pos 0)) (s .pre .1 i (omega arith)))
 
 mul-t10 : tie.Need-mul-t10 Inv-loop μ-loop
@@ -55,8 +55,8 @@ mul-t10 c = search needs
 slice-set-from-days : tie.Need-slice-set-from-days Inv-loop μ-loop
 slice-set-from-days c = search needs
 
-add-i : tie.Need-add-i Inv-loop μ-loop
-add-i c = search needs
+add-written : tie.Need-add-written Inv-loop μ-loop
+add-written c = search needs
 
 loop-less : tie.Need-loop-less Inv-loop μ-loop
 loop-less c = search needs
@@ -67,9 +67,9 @@ loop-again c = let s = c .before .before .before .before in
       omega arith,
       (
         simp length-set (l .inv .1 .0),
-        ap (λ (d : List ℤ). set d (l .i) (toZ w32 (ofZ w32 (read (c .day .result))))) (l .inv .1 .1)
-            ∙ filled-one (map dayOf (s .args .instants .now)) (s .args .days .now) (as-long s) (l .i) _ (dayOf (pos 0)) (omega arith)
-            (toZ-ofZ (cast-days c) ∙ day-is c ∙ sym (List·getD-map dayOf (s .args .instants .now) (l .i) (pos 0))),
+        ap (λ (d : List ℤ). set d (l .written) (toZ w32 (ofZ w32 (read (c .day .result))))) (l .inv .1 .1)
+            ∙ filled-one (map dayOf (s .args .instants .now)) (s .args .days .now) (as-long s) (l .written) _ (dayOf (pos 0)) (omega arith)
+            (toZ-ofZ (cast-days c) ∙ day-is c ∙ sym (List·getD-map dayOf (s .args .instants .now) (l .written) (pos 0))),
       ),
     )
 
@@ -79,7 +79,7 @@ same-length c = search needs
 returns : tie.Need-returns Inv-loop μ-loop
 returns c = let l = c .before .loop in
     let s = c .before .before in
-    l .inv .1 .1 ∙ filled (map dayOf (s .args .instants .now)) (s .args .days .now) (as-long s) (l .i) (omega arith)
+    l .inv .1 .1 ∙ filled (map dayOf (s .args .instants .now)) (s .args .days .now) (as-long s) (l .written) (omega arith)
 
 pub fill-each-spec : {M : Type 1} → statement M
 fill-each-spec =
@@ -94,7 +94,7 @@ fill-each-spec =
     cast-days
     mul-t10
     slice-set-from-days
-    add-i
+    add-written
     loop-less
     loop-again
     same-length

@@ -1,4 +1,4 @@
--- The first i days are the one day, and behind them stands what the list held before.
+-- The first days are the one day, and behind them stands what the list held before.
 use Rattle.instant.proofs.Lists.{filled-one, filled}
 use mir.Facts.{toZ-ofZ}
 use mir.Val.{toZ, ofZ}
@@ -23,10 +23,10 @@ abbrev same : ℤ → List ℤ → List ℤ
 same day days = replicate (length days) day
 
 abbrev Inv-loop : tie.InvT-loop
-Inv-loop day days₀ i₀ days i = (i ≤ length days₀) × ((length days ≡ length days₀) × (days ≡ paste days₀ 0 (replicate (length days₀) (toZ w32 day)) i))
+Inv-loop day days₀ written₀ days written = (written ≤ length days₀) × ((length days ≡ length days₀) × (days ≡ paste days₀ 0 (replicate (length days₀) (toZ w32 day)) written))
 
 abbrev μ-loop : tie.MeasureT-loop
-μ-loop day days₀ i₀ days i = length days₀ - i
+μ-loop day days₀ written₀ days written = length days₀ - written
 
 loop-holds : tie.Need-loop-holds Inv-loop μ-loop
 loop-holds c = (omega arith, (refl, paste-zero (c .args .days .now) 0 (same (read (c .args .day)) (c .args .days .now))))
@@ -37,8 +37,8 @@ mul-day c = search needs
 slice-set-from-day : tie.Need-slice-set-from-day Inv-loop μ-loop
 slice-set-from-day c = search needs
 
-add-i : tie.Need-add-i Inv-loop μ-loop
-add-i c = search needs
+add-written : tie.Need-add-written Inv-loop μ-loop
+add-written c = search needs
 
 loop-less : tie.Need-loop-less Inv-loop μ-loop
 loop-less c = search needs
@@ -49,9 +49,9 @@ loop-again c = let a = c .before .before .args in
       omega arith,
       (
         simp length-set (l .inv .1 .0),
-        ap (λ (d : List ℤ). set d (l .i) (read (a .day))) (l .inv .1 .1)
-            ∙ filled-one (same (read (a .day)) (a .days .now)) (a .days .now) (length-replicate (length (a .days .now)) (read (a .day))) (l .i) (read (a .day)) (pos 0) (omega arith)
-            (sym (getD-replicate (length (a .days .now)) (l .i) (read (a .day)) (pos 0) (omega arith))),
+        ap (λ (d : List ℤ). set d (l .written) (read (a .day))) (l .inv .1 .1)
+            ∙ filled-one (same (read (a .day)) (a .days .now)) (a .days .now) (length-replicate (length (a .days .now)) (read (a .day))) (l .written) (read (a .day)) (pos 0) (omega arith)
+            (sym (getD-replicate (length (a .days .now)) (l .written) (read (a .day)) (pos 0) (omega arith))),
       ),
     )
 
@@ -61,8 +61,8 @@ same-length c = search needs
 returns : tie.Need-returns Inv-loop μ-loop
 returns c = let a = c .before .before .args in
     let l = c .before .loop in
-    l .inv .1 .1 ∙ filled (same (read (a .day)) (a .days .now)) (a .days .now) (length-replicate (length (a .days .now)) (read (a .day))) (l .i) (omega arith)
+    l .inv .1 .1 ∙ filled (same (read (a .day)) (a .days .now)) (a .days .now) (length-replicate (length (a .days .now)) (read (a .day))) (l .written) (omega arith)
     ∙ ap (λ (z : ℤ). same z (a .days .now)) (toZ-ofZ (c .before .before .fits .day))
 
 pub fill-same-spec : {M : Type 1} → statement M
-fill-same-spec = tie.close (tie.spec Inv-loop μ-loop loop-holds mul-day slice-set-from-day add-i loop-less loop-again same-length returns)
+fill-same-spec = tie.close (tie.spec Inv-loop μ-loop loop-holds mul-day slice-set-from-day add-written loop-less loop-again same-length returns)
