@@ -32,12 +32,6 @@ asked :
     ≡ fallsFrom (c .args .before) (c .args .instants .now ++ lastInstant ∷ [])
 asked c = ap (λ (z : ℤ). fallsFrom z (c .args .instants .now ++ lastInstant ∷ [])) (toZ-ofZ (c .fits .before))
 
-mul-if1 : tie.Need-mul-if1 Inv-loop μ-loop
-mul-if1 c = search needs
-
-shared-slice-copy-out-if1 : tie.Need-shared-slice-copy-out-if1 Inv-loop μ-loop
-shared-slice-copy-out-if1 c = search needs
-
 returns : tie.Need-returns Inv-loop μ-loop
 returns c =
     let l = c .before .before .before .loop in
@@ -45,18 +39,6 @@ returns c =
     let f : SFits w64 (getD s (l .i) (pos 0)) = search needs in
     let e = falls-here s (lastInstant ∷ []) (toZ w64 (l .before)) (l .i) (omega arith) (compared _ f (c .if1 .taken)) in
     sym e ∙ l .inv .1 ∙ asked (c .before .before .before .before)
-
-mul-before : tie.Need-mul-before Inv-loop μ-loop
-mul-before c = search needs
-
-shared-slice-copy-out-before : tie.Need-shared-slice-copy-out-before Inv-loop μ-loop
-shared-slice-copy-out-before c = search needs
-
-add-i : tie.Need-add-i Inv-loop μ-loop
-add-i c = search needs
-
-loop-less : tie.Need-loop-less Inv-loop μ-loop
-loop-less c = search needs
 
 loop-again : tie.Need-loop-again Inv-loop μ-loop
 loop-again c =
@@ -79,12 +61,12 @@ falls-to-last-spec =
     Inv-loop
     μ-loop
     loop-holds
-    mul-if1
-    shared-slice-copy-out-if1
+    (λ c. search needs)
+    (λ c. search needs)
     returns
-    mul-before
-    shared-slice-copy-out-before
-    add-i
-    loop-less
+    (λ c. search needs)
+    (λ c. search needs)
+    (λ c. search needs)
+    (λ c. search needs)
     loop-again
     returns-2)

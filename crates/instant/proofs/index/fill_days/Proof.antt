@@ -23,36 +23,6 @@ abbrev μ-loop : tie.MeasureT-loop
 loop-holds : tie.Need-loop-holds Inv-loop μ-loop
 loop-holds c = (omega arith, (refl, paste-zero (c .args .days .now) 0 (map dayOf (c .args .instants .now))))
 
-sub-loop : tie.Need-sub-loop Inv-loop μ-loop
-sub-loop c = search needs
-
-add-end : tie.Need-add-end Inv-loop μ-loop
-add-end c = search needs
-
-mul-fill-block : tie.Need-mul-fill-block Inv-loop μ-loop
-mul-fill-block c = search needs
-
-sub-fill-block : tie.Need-sub-fill-block Inv-loop μ-loop
-sub-fill-block c = search needs
-
-part-fill-block-start : tie.Need-part-fill-block-start Inv-loop μ-loop
-part-fill-block-start c = search needs
-
-part-fill-block-end : tie.Need-part-fill-block-end Inv-loop μ-loop
-part-fill-block-end c = search needs
-
-mul-fill-block-2 : tie.Need-mul-fill-block-2 Inv-loop μ-loop
-mul-fill-block-2 c = search needs
-
-sub-fill-block-2 : tie.Need-sub-fill-block-2 Inv-loop μ-loop
-sub-fill-block-2 c = search needs
-
-part-fill-block-start-2 : tie.Need-part-fill-block-start-2 Inv-loop μ-loop
-part-fill-block-start-2 c = search needs
-
-part-fill-block-end-2 : tie.Need-part-fill-block-end-2 Inv-loop μ-loop
-part-fill-block-end-2 c = search needs
-
 fill-block-requires : tie.Need-fill-block-requires Inv-loop μ-loop
 fill-block-requires c κs =
     let l = c .before .before .before .loop in
@@ -70,9 +40,6 @@ fill-block-requires c κs =
       ),
     )
 
-loop-less : tie.Need-loop-less Inv-loop μ-loop
-loop-less c = search needs
-
 loop-again : tie.Need-loop-again Inv-loop μ-loop
 loop-again c =
     let l = c .before .before .before .before .before .loop in
@@ -87,30 +54,6 @@ loop-again c =
       ),
     )
 
-mul-fill-each : tie.Need-mul-fill-each Inv-loop μ-loop
-mul-fill-each c = search needs
-
-sub-fill-each : tie.Need-sub-fill-each Inv-loop μ-loop
-sub-fill-each c = search needs
-
-part-fill-each-start : tie.Need-part-fill-each-start Inv-loop μ-loop
-part-fill-each-start c = search needs
-
-part-fill-each-end : tie.Need-part-fill-each-end Inv-loop μ-loop
-part-fill-each-end c = search needs
-
-mul-fill-each-2 : tie.Need-mul-fill-each-2 Inv-loop μ-loop
-mul-fill-each-2 c = search needs
-
-sub-fill-each-2 : tie.Need-sub-fill-each-2 Inv-loop μ-loop
-sub-fill-each-2 c = search needs
-
-part-fill-each-start-2 : tie.Need-part-fill-each-start-2 Inv-loop μ-loop
-part-fill-each-start-2 c = search needs
-
-part-fill-each-end-2 : tie.Need-part-fill-each-end-2 Inv-loop μ-loop
-part-fill-each-end-2 c = search needs
-
 fill-each-requires : tie.Need-fill-each-requires Inv-loop μ-loop
 fill-each-requires c κs =
     let l = c .before .before .before .loop in
@@ -123,9 +66,6 @@ fill-each-requires c κs =
           ∙ sym (part-length (l .days) (l .i) (length (l .days)) (omega (arith, same)) m),
       part-in-range (s .args .instants .now) (l .i) n (l .inv .0) le (s .pre .1 .0),
     )
-
-same-length : tie.Need-same-length Inv-loop μ-loop
-same-length c = search needs
 
 returns : tie.Need-returns Inv-loop μ-loop
 returns c =
@@ -147,27 +87,27 @@ fill-days-spec =
     Inv-loop
     μ-loop
     loop-holds
-    sub-loop
-    add-end
-    mul-fill-block
-    sub-fill-block
-    part-fill-block-start
-    part-fill-block-end
-    mul-fill-block-2
-    sub-fill-block-2
-    part-fill-block-start-2
-    part-fill-block-end-2
+    (λ c. search needs)
+    (λ c. search needs)
+    (λ c. search needs)
+    (λ c. search needs)
+    (λ c. search needs)
+    (λ c. search needs)
+    (λ c. search needs)
+    (λ c. search needs)
+    (λ c. search needs)
+    (λ c. search needs)
     fill-block-requires
-    loop-less
+    (λ c. search needs)
     loop-again
-    mul-fill-each
-    sub-fill-each
-    part-fill-each-start
-    part-fill-each-end
-    mul-fill-each-2
-    sub-fill-each-2
-    part-fill-each-start-2
-    part-fill-each-end-2
+    (λ c. search needs)
+    (λ c. search needs)
+    (λ c. search needs)
+    (λ c. search needs)
+    (λ c. search needs)
+    (λ c. search needs)
+    (λ c. search needs)
+    (λ c. search needs)
     fill-each-requires
-    same-length
+    (λ c. search needs)
     returns)

@@ -29,15 +29,6 @@ as-long c = length-map (c .args .instants .now) dayOf ∙ c .pre .0
 loop-holds : tie.Need-loop-holds Inv-loop μ-loop
 loop-holds c = (omega arith, (refl, paste-zero (c .args .days .now) 0 (map dayOf (c .args .instants .now))))
 
-mul-day : tie.Need-mul-day Inv-loop μ-loop
-mul-day c = search needs
-
-shared-slice-copy-out-day : tie.Need-shared-slice-copy-out-day Inv-loop μ-loop
-shared-slice-copy-out-day c = search needs
-
-day-requires : tie.Need-day-requires Inv-loop μ-loop
-day-requires c κs = search needs
-
 -- the day that is stored
 day-is : (c : tie.After-day Inv-loop μ-loop) → read (c .day .result) ≡ dayOf (getD (c .before .before .before .before .args .instants .now) (c .before .before .before .loop .written) (pos 0))
 day-is c = let f : SFits w64 (c .day .result) = search needs in
@@ -48,18 +39,6 @@ cast-days : tie.Need-cast-days Inv-loop μ-loop
 cast-days c = let s = c .before .before .before .before in
     let i = c .before .before .before .loop .written in
     subst (SFits w32) (sym (day-is c)) (day-fits (getD (s .args .instants .now) i (pos 0)) (s .pre .1 i (omega arith)))
-
-mul-t10 : tie.Need-mul-t10 Inv-loop μ-loop
-mul-t10 c = search needs
-
-slice-set-from-days : tie.Need-slice-set-from-days Inv-loop μ-loop
-slice-set-from-days c = search needs
-
-add-written : tie.Need-add-written Inv-loop μ-loop
-add-written c = search needs
-
-loop-less : tie.Need-loop-less Inv-loop μ-loop
-loop-less c = search needs
 
 loop-again : tie.Need-loop-again Inv-loop μ-loop
 loop-again c = let s = c .before .before .before .before in
@@ -73,9 +52,6 @@ loop-again c = let s = c .before .before .before .before in
       ),
     )
 
-same-length : tie.Need-same-length Inv-loop μ-loop
-same-length c = search needs
-
 returns : tie.Need-returns Inv-loop μ-loop
 returns c = let l = c .before .loop in
     let s = c .before .before in
@@ -88,14 +64,14 @@ fill-each-spec =
     Inv-loop
     μ-loop
     loop-holds
-    mul-day
-    shared-slice-copy-out-day
-    day-requires
+    (λ c. search needs)
+    (λ c. search needs)
+    (λ c κs. search needs)
     cast-days
-    mul-t10
-    slice-set-from-days
-    add-written
-    loop-less
+    (λ c. search needs)
+    (λ c. search needs)
+    (λ c. search needs)
+    (λ c. search needs)
     loop-again
-    same-length
+    (λ c. search needs)
     returns)

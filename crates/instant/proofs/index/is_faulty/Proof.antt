@@ -55,57 +55,12 @@ returns-2 c = let l = c .before .before .before .loop in
     ∙ ap (λ (r : List ℤ). fallsFrom (toZ w64 (l .before)) (r ++ lastInstant ∷ [])) (take-all (length s - l .i) (drop (l .i) s) (omega (arith, length-drop (l .i) s)))
     ∙ l .inv .1
 
-sub-loop : tie.Need-sub-loop Inv-loop μ-loop
-sub-loop c = search needs
-
-add-end : tie.Need-add-end Inv-loop μ-loop
-add-end c = search needs
-
-mul-eight-fall : tie.Need-mul-eight-fall Inv-loop μ-loop
-mul-eight-fall c = search needs
-
-sub-eight-fall : tie.Need-sub-eight-fall Inv-loop μ-loop
-sub-eight-fall c = search needs
-
-part-eight-fall-start : tie.Need-part-eight-fall-start Inv-loop μ-loop
-part-eight-fall-start c = search needs
-
-part-eight-fall-end : tie.Need-part-eight-fall-end Inv-loop μ-loop
-part-eight-fall-end c = search needs
-
 eight-fall-requires : tie.Need-eight-fall-requires Inv-loop μ-loop
 eight-fall-requires c κs =
     let i = c .before .before .loop .i in
     let s = c .before .before .before .args .instants .now in
     let n : i + 8 ≤ length s = omega arith in
     omega (arith, part-length s i (i + 8) (omega arith) n)
-
-sub-before : tie.Need-sub-before Inv-loop μ-loop
-sub-before c = search needs
-
-mul-before : tie.Need-mul-before Inv-loop μ-loop
-mul-before c = search needs
-
-shared-slice-copy-out-before : tie.Need-shared-slice-copy-out-before Inv-loop μ-loop
-shared-slice-copy-out-before c = search needs
-
-loop-less : tie.Need-loop-less Inv-loop μ-loop
-loop-less c = search needs
-
-mul-falls-to-last : tie.Need-mul-falls-to-last Inv-loop μ-loop
-mul-falls-to-last c = search needs
-
-sub-falls-to-last : tie.Need-sub-falls-to-last Inv-loop μ-loop
-sub-falls-to-last c = search needs
-
-part-falls-to-last-start : tie.Need-part-falls-to-last-start Inv-loop μ-loop
-part-falls-to-last-start c = search needs
-
-part-falls-to-last-end : tie.Need-part-falls-to-last-end Inv-loop μ-loop
-part-falls-to-last-end c = search needs
-
-falls-to-last-requires : tie.Need-falls-to-last-requires Inv-loop μ-loop
-falls-to-last-requires c κs = search needs
 
 pub is-faulty-spec : {M : Type 1} → statement M
 is-faulty-spec =
@@ -114,22 +69,22 @@ is-faulty-spec =
     Inv-loop
     μ-loop
     loop-holds
-    sub-loop
-    add-end
-    mul-eight-fall
-    sub-eight-fall
-    part-eight-fall-start
-    part-eight-fall-end
+    (λ c. search needs)
+    (λ c. search needs)
+    (λ c. search needs)
+    (λ c. search needs)
+    (λ c. search needs)
+    (λ c. search needs)
     eight-fall-requires
     returns
-    sub-before
-    mul-before
-    shared-slice-copy-out-before
-    loop-less
+    (λ c. search needs)
+    (λ c. search needs)
+    (λ c. search needs)
+    (λ c. search needs)
     loop-again
-    mul-falls-to-last
-    sub-falls-to-last
-    part-falls-to-last-start
-    part-falls-to-last-end
-    falls-to-last-requires
+    (λ c. search needs)
+    (λ c. search needs)
+    (λ c. search needs)
+    (λ c. search needs)
+    (λ c κs. search needs)
     returns-2)
