@@ -470,7 +470,7 @@ fn index_lines() {
                 &[
                     ("plain Rust", instants::index_days::<PLAIN>),
                     ("Rust without an early exit", instants::index_days::<WITHOUT_EARLY_EXIT>),
-                    ("Rust, the library's steps", instants::index_days::<BY_BLOCKS>),
+                    ("Rust by blocks, unsigned quotient", instants::index_days::<BY_BLOCKS>),
                 ],
             );
         }

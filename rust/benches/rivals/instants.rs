@@ -86,7 +86,7 @@ pub unsafe extern "C" fn join_instant(
 pub const PLAIN: u8 = 0;
 /// The tests in one pass over the whole list, and an unsigned quotient.
 pub const WITHOUT_EARLY_EXIT: u8 = 1;
-/// The library's steps: eight neighbours compared at a time, and blocks of one day filled with it.
+/// The library's steps, eight neighbours compared at a time and blocks of one day filled with it, and an unsigned quotient.
 pub const BY_BLOCKS: u8 = 2;
 
 /// The refusal of an index whose lists are equally long, and its place, each test up to the first fault.
@@ -98,8 +98,8 @@ fn fault(instants: &[i64]) -> Option<(i64, usize)> {
     instants.windows(2).position(|pair| pair[1] < pair[0]).map(|before| (15, before + 1))
 }
 
-/// Whether such an index has a fault. Below zero is the sum of what lies outside or falls, in a form that becomes vector code: where
-/// every instant lies in the range, no difference wraps.
+/// Whether such an index has a fault: below zero is every difference of one that lies outside or falls, in a form that
+/// becomes vector code. Where every instant lies in the range, no difference wraps.
 #[inline(always)]
 fn has_fault(instants: &[i64]) -> bool {
     let outside = |instant: i64| instant.wrapping_sub(FIRST) | LAST.wrapping_sub(instant);
