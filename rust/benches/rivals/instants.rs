@@ -103,8 +103,8 @@ fn fault(instants: &[i64]) -> Option<(i64, usize)> {
 #[inline(always)]
 fn has_fault(instants: &[i64]) -> bool {
     let outside = |instant: i64| instant.wrapping_sub(FIRST) | LAST.wrapping_sub(instant);
-    let signs = instants.iter().fold(0, |signs, &instant| signs | outside(instant));
-    instants.windows(2).fold(signs, |signs, pair| signs | pair[1].wrapping_sub(pair[0])) < 0
+    let first = instants.first().map_or(0, |&instant| outside(instant));
+    instants.windows(2).fold(first, |signs, pair| signs | outside(pair[1]) | pair[1].wrapping_sub(pair[0])) < 0
 }
 
 /// The same, from the first instant of the range to the last, eight neighbours to a branch.
