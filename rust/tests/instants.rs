@@ -4,10 +4,14 @@
 mod support;
 
 use ovenquill::{day_of_instant, index_days, join_instant, split_instant, Fields, INSTANTS};
+use std::ops::Range;
 use support::answer::answer;
-use support::answer::Answer::{Refused, RefusedAt, Value};
-use support::plain::{self, DAY, FIRST_DAY, FIRST_INSTANT, FIRST_YEAR, LAST_DAY, LAST_INSTANT, LAST_YEAR, SECOND};
+use support::answer::Answer::{self, Refused, RefusedAt, Value};
+use support::plain::{
+    self, DAY, FIRST_DAY, FIRST_INSTANT, FIRST_YEAR, HOUR, LAST_DAY, LAST_INSTANT, LAST_YEAR, MINUTE, SECOND,
+};
 use support::random::Random;
+use support::BAD_INSTANTS;
 
 /// Holds the day and the fields of any number to the plain ones, and joins the fields of an instant again.
 fn try_instant(instant: i64) {
@@ -57,7 +61,7 @@ fn rows_of_document_01() {
         assert_eq!(split_instant(instant), Ok(fields));
         assert_eq!(join_instant(fields), Ok(instant));
     }
-    for instant in [FIRST_INSTANT - 1, LAST_INSTANT + 1, i64::MIN, i64::MAX] {
+    for instant in BAD_INSTANTS {
         assert_eq!(answer(day_of_instant(instant)), Refused(4));
         assert_eq!(answer(split_instant(instant)), Refused(4));
     }
@@ -195,53 +199,197 @@ fn random_fields() {
 
 // The recording index
 
-/// Numbers on either side of a lent list.
-const AROUND: usize = 16;
-const INSTANT_GUARD: i64 = 0x5afe_c0de_5afe_c0de;
-const DAY_GUARD: i32 = 0x5afe_c0de;
+/// What stands before the lent instants and behind them: a pair across either end falls.
+const INSTANT_GUARDS: [i64; 2] = [0x5afe_c0de_5afe_c0de, -0x5afe_c0de_5afe_c0de];
+const DAY_GUARDS: [i32; 2] = [0x5afe_c0de; 2];
 /// What is in the list of days before a call.
 const BEFORE: i32 = -0x0123_4567;
 
+/// Where a list of this length stands among its guards; not every list begins at the same alignment.
+fn among_guards(length: usize) -> Range<usize> {
+    let start = 16 + length % 4;
+    start..start + length
+}
+
 /// The same list with guards around it.
-fn guarded<T: Copy>(list: &[T], guard: T) -> Vec<T> {
-    let guards = vec![guard; AROUND];
-    [&guards, list, &guards].concat()
+fn guarded<T: Copy>(list: &[T], [before, behind]: [T; 2]) -> Vec<T> {
+    [&vec![before; among_guards(list.len()).start], list, &[behind; 16]].concat()
 }
 
 /// Calls the index on these instants and that many days, both among guards, and holds the answer, the days and all that
-/// is around them to the plain index.
-fn try_index(instants: &[i64], days_length: usize) {
-    let lent = guarded(instants, INSTANT_GUARD);
-    let mut days = guarded(&vec![BEFORE; days_length], DAY_GUARD);
-    let result = index_days(&lent[AROUND..AROUND + instants.len()], &mut days[AROUND..AROUND + days_length]);
+/// is around them to the plain index; answers the same.
+fn try_index(instants: &[i64], days_length: usize) -> Answer<usize> {
+    let lent = guarded(instants, INSTANT_GUARDS);
+    let mut days = guarded(&vec![BEFORE; days_length], DAY_GUARDS);
+    let answered = answer(index_days(&lent[among_guards(instants.len())], &mut days[among_guards(days_length)]));
 
     let mut expected = vec![BEFORE; days_length];
-    assert_eq!(answer(result), plain::index_days(instants, &mut expected), "{} instants", instants.len());
-    assert!(days == guarded(&expected, DAY_GUARD), "the days of {} instants are wrong", instants.len());
-    assert!(lent == guarded(instants, INSTANT_GUARD), "an instant changed");
+    let title = || format!("{} instants, the first of them {:?}", instants.len(), &instants[..instants.len().min(20)]);
+    assert_eq!(answered, plain::index_days(instants, &mut expected), "{}", title());
+    assert!(days == guarded(&expected, DAY_GUARDS), "the days are wrong: {}", title());
+    assert!(lent == guarded(instants, INSTANT_GUARDS), "an instant changed: {}", title());
+    answered
 }
 
-fn random_instants(random: &mut Random, length: usize) -> Vec<i64> {
-    (0..length).map(|_| random.within(FIRST_INSTANT, LAST_INSTANT)).collect()
+/// The lengths of lists that are tried with something at every place.
+fn lengths() -> impl Iterator<Item = usize> {
+    (0..=70).chain([127, 128, 129, 1000])
+}
+
+/// The largest steps from one instant to the next: none, a millisecond, two that leave many instants on a day, days and years.
+const LARGEST_STEPS: [i64; 6] = [0, 1, MINUTE, HOUR, 3 * DAY, 5 * 365 * DAY];
+
+/// Instants that never fall, with steps of at most one of these; the first and the last of the range are not among them.
+fn recording(random: &mut Random, largest_steps: &[i64], length: usize) -> Vec<i64> {
+    let mut instant = random.within(FIRST_INSTANT + 1, LAST_INSTANT - 1);
+    let mut next = || {
+        let largest = random.choose(largest_steps);
+        instant = (instant + random.within(0, largest)).min(LAST_INSTANT - 1);
+        instant
+    };
+    (0..length).map(|_| next()).collect()
+}
+
+/// Recordings of this length: one for each largest step, and one with steps of every size.
+fn recordings(random: &mut Random, length: usize) -> Vec<Vec<i64>> {
+    let kinds = LARGEST_STEPS.chunks(1).chain([&LARGEST_STEPS[..]]);
+    kinds.map(|largest_steps| recording(random, largest_steps, length)).collect()
+}
+
+/// The same list with another instant at one place.
+fn with(instants: &[i64], place: usize, instant: i64) -> Vec<i64> {
+    let mut changed = instants.to_vec();
+    changed[place] = instant;
+    changed
+}
+
+/// Recordings with a fall at this place only: the instant there is too small, the one before it is too large, or all from
+/// there on begin again earlier.
+fn with_a_fall(instants: &[i64], place: usize) -> Vec<Vec<i64>> {
+    let (before, there) = (instants[place - 1], instants[place]);
+    let mut begun_again = instants.to_vec();
+    begun_again[place..].iter_mut().for_each(|instant| *instant -= there - before + 1);
+    let mut fallen = vec![begun_again];
+    for by in [1, DAY, LAST_INSTANT - FIRST_INSTANT] {
+        fallen.push(with(instants, place, (before - by).max(FIRST_INSTANT)));
+        fallen.push(with(instants, place - 1, (there + by).min(LAST_INSTANT)));
+    }
+    fallen
+}
+
+/// Every list of so many of these instants.
+fn every_list(of: &[i64], length: u32) -> impl Iterator<Item = Vec<i64>> + '_ {
+    let digit = |number: usize, place| number / of.len().pow(place) % of.len();
+    (0..of.len().pow(length)).map(move |number| (0..length).map(|place| of[digit(number, place)]).collect())
 }
 
 #[test]
-fn indexes_of_many_lengths_with_a_bad_instant_at_every_place() {
+fn the_index_refuses_in_order() {
+    let mut days = [BEFORE; 4];
+    let all_wrong = [1, 0, i64::MAX, 0];
+    assert_eq!(answer(index_days(&all_wrong, &mut days[1..])), Refused(12));
+    assert_eq!(answer(index_days(&all_wrong, &mut days)), RefusedAt(4, 2));
+    let range_right = [1, 0, DAY, 0];
+    assert_eq!(answer(index_days(&range_right, &mut days)), RefusedAt(15, 1));
+    let first_pair_right = [0, 0, DAY, 0];
+    assert_eq!(answer(index_days(&first_pair_right, &mut days)), RefusedAt(15, 3));
+    assert_eq!(days, [BEFORE; 4]);
+    assert_eq!(answer(index_days(&[0, 0, DAY, DAY], &mut days)), Value(4));
+    assert_eq!(days, [0, 0, 1, 1]);
+}
+
+#[test]
+fn indexes_of_many_lengths() {
     let mut random = Random::new(7);
-    for length in (0..=70).chain([127, 128, 129, 1000]) {
-        let mut instants = random_instants(&mut random, length);
-        try_index(&instants, length);
-        for place in 0..length {
-            let right = instants[place];
-            for edge in [FIRST_INSTANT, LAST_INSTANT, -1, 0] {
-                instants[place] = edge;
-                try_index(&instants, length);
+    for length in lengths() {
+        for instants in recordings(&mut random, length) {
+            assert_eq!(try_index(&instants, length), Value(length));
+        }
+    }
+}
+
+#[test]
+fn the_days_of_an_accepted_index_never_fall() {
+    let mut random = Random::new(60);
+    for length in lengths() {
+        for instants in recordings(&mut random, length) {
+            let mut days = vec![BEFORE; length];
+            assert_eq!(index_days(&instants, &mut days), Ok(length));
+            assert!(days.windows(2).all(|pair| pair[0] <= pair[1]), "{instants:?} {days:?}");
+        }
+    }
+}
+
+#[test]
+fn indexes_with_a_new_day_at_every_place() {
+    for length in lengths() {
+        for place in 0..=length {
+            for new_day in [FIRST_INSTANT + DAY, -DAY, 0, LAST_INSTANT + 1 - DAY] {
+                let first = new_day - place as i64;
+                let instants: Vec<i64> = (first..).take(length).collect();
+                assert_eq!(try_index(&instants, length), Value(length));
             }
-            for bad in [FIRST_INSTANT - 1, LAST_INSTANT + 1, i64::MIN, i64::MAX] {
-                instants[place] = bad;
-                try_index(&instants, length);
+        }
+    }
+}
+
+#[test]
+fn indexes_with_equal_neighbours_at_every_place() {
+    let mut random = Random::new(61);
+    for length in lengths() {
+        for instants in recordings(&mut random, length) {
+            for place in 1..length {
+                let equal = with(&instants, place, instants[place - 1]);
+                assert_eq!(try_index(&equal, length), Value(length));
             }
-            instants[place] = right;
+        }
+    }
+}
+
+#[test]
+fn indexes_with_a_fall_at_every_place() {
+    let mut random = Random::new(62);
+    for length in lengths() {
+        for instants in recordings(&mut random, length) {
+            for place in 1..length {
+                for fallen in with_a_fall(&instants, place) {
+                    assert_eq!(try_index(&fallen, length), RefusedAt(15, place as i64));
+                }
+            }
+        }
+    }
+}
+
+#[test]
+fn indexes_with_several_falls() {
+    let mut random = Random::new(63);
+    for length in 2..=70 {
+        let instants = recording(&mut random, &LARGEST_STEPS, length);
+        for first in 1..length {
+            let fallen = with(&instants, first, instants[first - 1] - 1);
+            for second in first + 1..length {
+                let fallen = with(&fallen, second, FIRST_INSTANT);
+                assert_eq!(try_index(&fallen, length), RefusedAt(15, first as i64));
+            }
+        }
+        let falling: Vec<i64> = (0..length as i64).rev().collect();
+        assert_eq!(try_index(&falling, length), RefusedAt(15, 1));
+    }
+}
+
+#[test]
+fn indexes_with_a_bad_instant_at_every_place() {
+    let mut random = Random::new(64);
+    for length in lengths() {
+        for instants in recordings(&mut random, length) {
+            for place in 0..length {
+                for edge in [FIRST_INSTANT, LAST_INSTANT, -1, 0] {
+                    try_index(&with(&instants, place, edge), length);
+                }
+                for bad in BAD_INSTANTS {
+                    assert_eq!(try_index(&with(&instants, place, bad), length), RefusedAt(4, place as i64));
+                }
+            }
         }
     }
 }
@@ -249,18 +397,17 @@ fn indexes_of_many_lengths_with_a_bad_instant_at_every_place() {
 #[test]
 fn indexes_with_several_bad_instants() {
     let mut random = Random::new(8);
-    let bad = [FIRST_INSTANT - 1, LAST_INSTANT + 1, i64::MIN, i64::MAX];
     for _ in 0..20_000 {
         let length = random.within(1, 70) as usize;
-        let mut instants = random_instants(&mut random, length);
+        let mut instants = recording(&mut random, &LARGEST_STEPS, length);
         for _ in 0..random.within(1, 5) {
             let place = random.within(0, length as i64 - 1) as usize;
-            instants[place] = random.choose(&bad);
+            instants[place] = random.choose(&BAD_INSTANTS);
         }
         try_index(&instants, length);
     }
     for length in 1..=70 {
-        try_index(&vec![i64::MIN; length], length);
+        assert_eq!(try_index(&vec![i64::MIN; length], length), RefusedAt(4, 0));
     }
     let mut days = [BEFORE; 3];
     assert_eq!(answer(index_days(&[0, i64::MAX, i64::MIN], &mut days)), RefusedAt(4, 1));
@@ -268,15 +415,114 @@ fn indexes_with_several_bad_instants() {
 }
 
 #[test]
+fn a_bad_instant_comes_before_a_fall_anywhere() {
+    let mut random = Random::new(65);
+    for length in lengths() {
+        let instants = recording(&mut random, &LARGEST_STEPS, length);
+        for fall in (1..length).filter(|&fall| length <= 70 || [1, length / 2, length - 1].contains(&fall)) {
+            let fallen = with(&instants, fall, instants[fall - 1] - 1);
+            for place in 0..length {
+                for bad in BAD_INSTANTS {
+                    assert_eq!(try_index(&with(&fallen, place, bad), length), RefusedAt(4, place as i64));
+                }
+            }
+        }
+    }
+}
+
+#[test]
+fn indexes_at_the_ends_of_the_range() {
+    for length in lengths() {
+        for place in 0..=length {
+            let [first, last] = [FIRST_INSTANT, LAST_INSTANT].map(|end| vec![end; length]);
+            let rising = [&first[..place], &last[place..]].concat();
+            assert_eq!(try_index(&rising, length), Value(length));
+            let falling = [&last[..place], &first[place..]].concat();
+            let falls = 0 < place && place < length;
+            let answer = if falls { RefusedAt(15, place as i64) } else { Value(length) };
+            assert_eq!(try_index(&falling, length), answer);
+        }
+    }
+}
+
+#[test]
+fn indexes_of_two_numbers_of_every_size() {
+    let mut numbers = support::powers();
+    for middle in [FIRST_INSTANT, -DAY, DAY, LAST_INSTANT] {
+        numbers.extend(middle - 1..=middle + 1);
+    }
+    for &earlier in &numbers {
+        for &later in &numbers {
+            try_index(&[earlier, later], 2);
+            try_index(&[[earlier; 20], [later; 20]].concat(), 40);
+        }
+    }
+}
+
+#[test]
+fn every_short_index_of_close_instants() {
+    for middle in [FIRST_INSTANT, -DAY, 0, DAY, LAST_INSTANT] {
+        let close: Vec<i64> = (middle - 3..=middle + 3).collect();
+        for instants in (0..=6).flat_map(|length| every_list(&close, length)) {
+            try_index(&instants, instants.len());
+        }
+    }
+    for instants in (7..=17).flat_map(|length| every_list(&[-1, 0], length)) {
+        try_index(&instants, instants.len());
+    }
+}
+
+#[test]
+fn every_four_neighbours_at_every_place() {
+    for of in [[-2, -1, 0, 1, 2], [-DAY - 1, -DAY, -1, 0, DAY], [FIRST_INSTANT - 1, -1, 0, 1, LAST_INSTANT + 1]] {
+        let [_, before, _, behind, _] = of;
+        for neighbours in every_list(&of, 4) {
+            for length in [8, 16, 19, 32, 35, 67] {
+                for place in 0..=length - 4 {
+                    let [before, behind] = [vec![before; place], vec![behind; length - 4 - place]];
+                    try_index(&[before, neighbours.clone(), behind].concat(), length);
+                }
+            }
+        }
+    }
+}
+
+#[test]
+fn random_indexes_with_a_few_changes() {
+    let mut random = Random::new(66);
+    let mut seen = [0; 3];
+    for _ in 0..60_000 {
+        let length = random.within(1, 300) as usize;
+        let largest_step = random.choose(&LARGEST_STEPS);
+        let mut instants = recording(&mut random, &[largest_step], length);
+        for _ in 0..random.within(0, 3) {
+            let place = random.within(0, length as i64 - 1) as usize;
+            let close = instants[place].saturating_add(random.within(-2, 2));
+            let bad = random.choose(&BAD_INSTANTS);
+            instants[place] = random.choose(&[close, close, close, close, FIRST_INSTANT, LAST_INSTANT, bad]);
+        }
+        let kind = match try_index(&instants, length) {
+            Value(_) => 0,
+            RefusedAt(4, _) => 1,
+            _ => 2,
+        };
+        seen[kind] += 1;
+    }
+    assert!(seen.iter().all(|&times| times > 5_000), "accepted, refused by 4 and by 15: {seen:?}");
+}
+
+#[test]
 fn indexes_of_unequal_lengths() {
     let mut random = Random::new(9);
     for length in (0..=70).chain([1000]) {
-        let good = random_instants(&mut random, length);
+        let good = recording(&mut random, &LARGEST_STEPS, length);
+        let falling: Vec<i64> = (0..length as i64).rev().collect();
         let bad = vec![i64::MAX; length];
-        for days_length in (0..=length + 3).chain([2 * length, 1000, length + 256, length + 65536]) {
-            // Refusal 12 comes before 4.
-            try_index(&good, days_length);
-            try_index(&bad, days_length);
+        let lengths = (0..=length + 3).chain([2 * length, 1000, length + 256, length + 65536]);
+        for days_length in lengths.filter(|&days_length| days_length != length) {
+            for instants in [&good, &falling, &bad] {
+                assert_eq!(try_index(instants, days_length), Refused(12));
+            }
         }
     }
     assert_eq!(answer(index_days(&[i64::MAX], &mut [])), Refused(12));
@@ -286,11 +532,17 @@ fn indexes_of_unequal_lengths() {
 #[test]
 fn an_index_of_a_million_instants() {
     let mut random = Random::new(10);
-    let mut instants = random_instants(&mut random, 1_000_000);
-    try_index(&instants, instants.len());
-    for place in [0, 499_999, 999_999] {
-        let right = std::mem::replace(&mut instants[place], LAST_INSTANT + 1);
-        try_index(&instants, instants.len());
-        instants[place] = right;
+    let length = 1_000_000;
+    for largest_step in [MINUTE, 2 * DAY] {
+        let instants = recording(&mut random, &[largest_step], length);
+        assert_eq!(try_index(&instants, length), Value(length));
+        for place in [1, 65_535, 65_536, 499_999, 999_998, 999_999] {
+            let fallen = with(&instants, place, instants[place - 1] - 1);
+            assert_eq!(try_index(&fallen, length), RefusedAt(15, place as i64));
+        }
+        let fallen = with(&instants, 1, instants[0] - 1);
+        for place in [0, 499_999, 999_999] {
+            assert_eq!(try_index(&with(&fallen, place, LAST_INSTANT + 1), length), RefusedAt(4, place as i64));
+        }
     }
 }

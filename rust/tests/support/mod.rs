@@ -19,6 +19,9 @@ pub fn powers() -> Vec<i64> {
     numbers
 }
 
+/// Numbers that are no instants: those next to the range and the farthest from it.
+pub const BAD_INSTANTS: [i64; 4] = [plain::FIRST_INSTANT - 1, plain::LAST_INSTANT + 1, i64::MIN, i64::MAX];
+
 /// Lengths of buffers far above a label's, on either side of what a byte holds and, behind the last whole 256 or 65536 bytes,
 /// of an instant label's own length.
 pub const LONG: [usize; 7] = [41, 64, 255, 256, 256 + plain::LABEL_BYTES, 4096, 65536 + plain::LABEL_BYTES];

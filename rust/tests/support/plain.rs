@@ -1,8 +1,8 @@
-//! Document 01 and change requests One, Three, Four and Five in plain Rust, written from their text and sharing nothing with the
-//! library but the types of dates, fields, cues, constants and clocks. The calendar is a table of every day, built by stepping from
-//! each day to the next; instants go by `div_euclid` and `rem_euclid`, labels by `write!`, the reader of instants byte by byte,
-//! timestamps and cue lines by splitting them at their marks and blanks, the constants by trying every n, and the clock by trying
-//! every step that may fit.
+//! Document 01 and change requests One, Three, Four, Five and Six in plain Rust, written from their text and sharing nothing with
+//! the library but the types of dates, fields, cues, constants and clocks. The calendar is a table of every day, built by stepping
+//! from each day to the next; instants go by `div_euclid` and `rem_euclid`, an index by one search for each of its refusals, labels
+//! by `write!`, the reader of instants byte by byte, timestamps and cue lines by splitting them at their marks and blanks, the
+//! constants by trying every n, and the clock by trying every step that may fit.
 
 use super::answer::Answer::{self, Refused, RefusedAt, Value};
 use ovenquill::{Clock, ClockPosition, Constants, Cue, Date, Fields};
@@ -244,6 +244,9 @@ pub fn index_days(instants: &[i64], days: &mut [i32]) -> Answer<usize> {
     }
     if let Some(place) = instants.iter().position(|&instant| !instant_in_range(instant)) {
         return RefusedAt(4, place as i64);
+    }
+    if let Some(place) = (1..instants.len()).find(|&place| instants[place] < instants[place - 1]) {
+        return RefusedAt(15, place as i64);
     }
     for (day, instant) in days.iter_mut().zip(instants) {
         *day = instant.div_euclid(DAY) as i32;
