@@ -12,6 +12,7 @@ use support::plain::{
     LAST_POSITION, LAST_YEAR, SECOND, WRAP,
 };
 use support::random::Random;
+use support::BAD_INSTANTS;
 
 const GUARD: i64 = 0x5afe_c0de_5afe_c0de;
 /// What a place holds before a call.
@@ -144,31 +145,39 @@ fn calls_about_instants() {
 }
 
 #[test]
-fn the_index_writes_a_place_only_for_a_bad_instant() {
+fn the_index_writes_a_place_only_for_a_bad_instant_or_a_fall() {
     let mut random = Random::new(27);
-    let mut seen = [0; 3];
+    let mut seen = [0; 4];
     for _ in 0..100_000 {
-        let count = random.within(0, 6) as usize;
-        let instants: Vec<i64> = (0..count).map(|_| random.within(FIRST_INSTANT, LAST_INSTANT)).collect();
-        let bad = [FIRST_INSTANT - 1, LAST_INSTANT + 1, i64::MIN, i64::MAX];
-        let instants: Vec<i64> =
-            instants.iter().map(|&good| if random.within(0, 5) == 0 { random.choose(&bad) } else { good }).collect();
-        let days_length = if random.within(0, 3) == 0 { random.within(0, 6) as usize } else { count };
+        let count = random.within(0, 40) as usize;
+        // In a list of close instants some are equal.
+        let (first, last) = random.choose(&[(FIRST_INSTANT, LAST_INSTANT), (-9, 9)]);
+        let mut instants: Vec<i64> = (0..count).map(|_| random.within(first, last)).collect();
+        instants.sort();
+        let stays = random.within(0, 1) == 0;
+        for instant in instants.iter_mut().filter(|_| !stays) {
+            match random.within(0, 30) {
+                0 => *instant = random.choose(&BAD_INSTANTS),
+                1..=3 => *instant = random.within(first, last),
+                _ => {}
+            }
+        }
+        let days_length = if random.within(0, 3) == 0 { random.within(0, 40) as usize } else { count };
         let mut days = vec![7; days_length];
         let mut expected_days = days.clone();
-        let wanted = match plain::index_days(&instants, &mut expected_days) {
-            Value(written) => (written as i64, BEFORE),
-            Refused(number) => (-number, BEFORE),
-            RefusedAt(number, place) => (-number, place),
+        let (wanted, kind) = match plain::index_days(&instants, &mut expected_days) {
+            Value(written) => ((written as i64, BEFORE), 0),
+            Refused(number) => ((-number, BEFORE), 1),
+            RefusedAt(number, place) => ((-number, place), if number == 4 { 2 } else { 3 }),
         };
         let answered = lend(BEFORE, |place| unsafe {
             raw::ovenquill_index_days(instants.as_ptr(), count, days.as_mut_ptr(), days_length, place)
         });
         assert_eq!(answered, wanted, "{instants:?} to {days_length} days");
         assert_eq!(days, expected_days);
-        seen[if wanted.1 != BEFORE { 0 } else { 1 + usize::from(wanted.0 < 0) }] += 1;
+        seen[kind] += 1;
     }
-    assert!(seen.iter().all(|&times| times > 10_000), "bad instants, days written, unequal lengths: {seen:?}");
+    assert!(seen.iter().all(|&times| times > 10_000), "accepted, refused by 12, by 4 and by 15: {seen:?}");
 }
 
 #[test]
