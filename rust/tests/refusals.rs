@@ -1,5 +1,5 @@
 //! The refusals: their numbers and words, and a call that gives each, against document 01's table, which change requests One,
-//! Three and Five change.
+//! Three, Five and Six change.
 
 mod support;
 
@@ -27,6 +27,7 @@ const TABLE: &[(i64, Refusal)] = &[
     (12, Refusal::UnequalLengths),
     (13, Refusal::MalformedTiming),
     (14, Refusal::ClockOutOfRange),
+    (15, Refusal::OutOfOrder),
 ];
 
 fn numbers() -> Vec<i64> {
@@ -129,6 +130,7 @@ fn each_refusal_is_given() {
                 Clock::At(0).follow((1 << 33) - 1).unwrap_err(),
             ],
         ),
+        (15, vec![index_days(&[0, -1], &mut [0; 2]).unwrap_err().into()]),
     ];
     assert_eq!(given.iter().map(|row| row.0).collect::<Vec<_>>(), numbers());
     for (number, refusals) in given {
@@ -141,9 +143,12 @@ fn each_refusal_is_given() {
 
 #[test]
 fn errors_that_hand_back_more() {
-    let error: IndexError = index_days(&[0, 1, i64::MAX, i64::MIN], &mut [0; 4]).unwrap_err();
-    assert_eq!((error.refusal, error.place), (Refusal::OutOfRange, Some(2)));
-    assert_eq!(error.to_string(), format!("{}, first at place 2", Refusal::OutOfRange));
+    for (instants, refusal) in [([0, 1, i64::MAX, i64::MIN], Refusal::OutOfRange), ([1, 1, 0, -1], Refusal::OutOfOrder)]
+    {
+        let error: IndexError = index_days(&instants, &mut [0; 4]).unwrap_err();
+        assert_eq!((error.refusal, error.place), (refusal, Some(2)));
+        assert_eq!(error.to_string(), format!("{refusal}, first at place 2"));
+    }
     let error: IndexError = index_days(&[i64::MAX], &mut []).unwrap_err();
     assert_eq!((error.refusal, error.place), (Refusal::UnequalLengths, None));
     assert_eq!(Box::<dyn Error>::from(error).to_string(), Refusal::UnequalLengths.to_string());
