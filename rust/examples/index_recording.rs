@@ -1,12 +1,12 @@
 //! Indexes a recording: the label, the day, the date and the weekday of the instant that each of its parts starts at.
 //!
-//!     index_recording              a recording that is built in, and the same with a bad instant in it
+//!     index_recording              a recording that is built in, the same with a bad instant in it, and with two swapped
 //!     index_recording - < FILE     instants in milliseconds from 1970-01-01 00:00, one to a line; empty lines are passed over
 //!
 //! The exit status is 1, with a message on standard error, where a line is no instant, where the index is refused and where
 //! not everything could be read or written; it is 2 with any other arguments.
 
-use ovenquill::{civil_from_days, index_days, instant_label, weekday, INSTANTS};
+use ovenquill::{civil_from_days, index_days, instant_label, weekday, Refusal, INSTANTS};
 use std::error::Error;
 use std::ffi::OsString;
 use std::io::{self, BufRead, Write};
@@ -29,7 +29,29 @@ fn show(instants: &[i64], days: &[i32], out: &mut impl Write) -> Result<(), Box<
     Ok(())
 }
 
-/// Shows the recording that is built in, and what the index answers where one of its instants is bad.
+/// The instant at the place of a refusal; one that is out of order with the one that it follows.
+fn bad_instant(refusal: Refusal, instants: &[i64], place: usize) -> String {
+    match refusal {
+        Refusal::OutOfOrder => format!("{} after {}", instants[place], instants[place - 1]),
+        _ => instants[place].to_string(),
+    }
+}
+
+/// Shows what the index answers about a recording that it refuses.
+fn show_refused(instants: &[i64], out: &mut impl Write) -> Result<(), Box<dyn Error>> {
+    let mut days = vec![NO_DAY; instants.len()];
+    if let Err(error) = index_days(instants, &mut days) {
+        writeln!(out, "\nrefused ({}): {error}", error.refusal.number())?;
+        if let Some(place) = error.place {
+            let instant = bad_instant(error.refusal, instants, place);
+            let written = days.iter().filter(|&&day| day != NO_DAY).count();
+            writeln!(out, "the bad instant is {instant}; {written} days were written")?;
+        }
+    }
+    Ok(())
+}
+
+/// Shows the recording that is built in, and what the index answers where one of its instants is bad and where two are swapped.
 fn show_built_in(out: &mut impl Write) -> Result<(), Box<dyn Error>> {
     let mut days = [NO_DAY; RECORDING.len()];
     index_days(&RECORDING, &mut days)?;
@@ -37,15 +59,11 @@ fn show_built_in(out: &mut impl Write) -> Result<(), Box<dyn Error>> {
 
     let mut with_a_bad_one = RECORDING;
     with_a_bad_one[3] = INSTANTS.end() + 1;
-    let mut days = [NO_DAY; RECORDING.len()];
-    if let Err(error) = index_days(&with_a_bad_one, &mut days) {
-        writeln!(out, "\nrefused ({}): {error}", error.refusal.number())?;
-        if let Some(instant) = error.place.and_then(|place| with_a_bad_one.get(place)) {
-            let written = days.iter().filter(|&&day| day != NO_DAY).count();
-            writeln!(out, "the bad instant is {instant}; {written} days were written")?;
-        }
-    }
-    Ok(())
+    show_refused(&with_a_bad_one, out)?;
+
+    let mut with_two_swapped = RECORDING;
+    with_two_swapped.swap(3, 4);
+    show_refused(&with_two_swapped, out)
 }
 
 /// Shows the recording whose instants are the lines of the input.
@@ -69,7 +87,7 @@ fn show_lines(input: impl BufRead, out: &mut impl Write) -> Result<(), Box<dyn E
         Some(place) => format!(
             "line {}: {} refused ({}): {}",
             numbers[place],
-            instants[place],
+            bad_instant(error.refusal, &instants, place),
             error.refusal.number(),
             error.refusal
         ),

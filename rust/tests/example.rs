@@ -49,6 +49,8 @@ fn bad_lines_and_refused_instants() {
     let bad = INSTANTS.end() + 1;
     let refused = format!("index_recording: line 3: {bad} refused (4): {}\n", Refusal::OutOfRange);
     assert_eq!(run(&["-"], format!("0\n\n{bad}\n{bad}\n").as_bytes()), (String::new(), refused, 1));
+    let refused = format!("index_recording: line 4: -1 after 5 refused (15): {}\n", Refusal::OutOfOrder);
+    assert_eq!(run(&["-"], b"5\n5\n\n-1\n-2\n"), (String::new(), refused, 1));
 
     let (out, messages, status) = run(&["-"], b"0\n\xff\n");
     assert_eq!((out, status), (String::new(), 1));
