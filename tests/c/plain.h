@@ -1,5 +1,5 @@
 /*
- * Document 01 and change requests One, Three, Four and Five in plain C, written from their text and sharing nothing with
+ * Document 01 and change requests One, Three, Four, Five and Six in plain C, written from their text and sharing nothing with
  * the library: years are counted one by one, labels go by snprintf, the reader of instants goes byte by byte, the readers
  * of timestamps and cue lines take one part after the other, the constants go by trying every n, and a step of the transport
  * clock by trying three. Each call here has the answer, and leaves in what it is lent the bytes, that the library's call of
@@ -44,7 +44,7 @@ static const struct constants paper_most = {1023, 1023, 1048575, 4294967295LL, 4
 
 #define PAPER_END_MAX 4294967295LL
 #define PAPER_BOUND_MAX 4294967294LL
-#define PAPER_LAST_REFUSAL 14
+#define PAPER_LAST_REFUSAL 15
 
 /* Change request Five's, in ticks: values are below the wrap, and steps go from the least to before the end. */
 #define PAPER_CLOCK_WRAP 8589934592LL

@@ -1,6 +1,6 @@
 /*
  * Instants, the index and the two labels: document 01, "Instants and the two labels". Reading positions and cue lines: change
- * request One.
+ * request One. The order of an index: change request Six.
  */
 #include <stdio.h>
 #include <string.h>
@@ -54,6 +54,11 @@ int64_t plain_index_days(const int64_t *instants, size_t count, int32_t *days, s
         if (outside(PAPER_FIRST_INSTANT, PAPER_LAST_INSTANT, instants[i])) {
             *place = (int64_t)i;
             return -4;
+        }
+    for (i = 1; i < count; i++)
+        if (instants[i] < instants[i - 1]) {
+            *place = (int64_t)i;
+            return -15;
         }
     for (i = 0; i < count; i++) {
         int64_t day = 0;

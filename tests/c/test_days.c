@@ -118,7 +118,7 @@ static void check_index(int64_t step)
         instants[i] = day * OVENQUILL_INSTANTS_PER_DAY + time_between(day);
     }
     same("index days", step, ovenquill_index_days(instants, count, days, count, &place), (int64_t)count);
-    same("place of an index without a bad instant", step, place, -1);
+    same("place of an accepted index", step, place, -1);
     for (i = 0; i < count; i++)
         same("day of an index", instants[i], days[i], OVENQUILL_FIRST_COUNT + (int64_t)i * step);
     free(instants);
