@@ -70,16 +70,19 @@ static void try_reader(const void *label, size_t length)
     hold("ovenquill_read_instant in its label", (int64_t)length, lent_label, same_label, length);
 }
 
-static void try_index(const int64_t *instants, size_t count, size_t days_length)
+/* Answers what the plain call does. */
+static int64_t try_index(const int64_t *instants, size_t count, size_t days_length)
 {
     const size_t instants_bytes = count * sizeof *instants, days_bytes = days_length * sizeof(int32_t);
     int64_t *lent_instants = (int64_t *)lend_copy(instants, instants_bytes);
     int64_t *same_instants = (int64_t *)lend_copy(instants, instants_bytes);
     int32_t *days = (int32_t *)lend(days_bytes), *right_days = (int32_t *)lend(days_bytes);
+    int64_t answer = 0;
     SAME_WITH_PLACE(int64_t, (int64_t)count, ovenquill_index_days(lent_instants, count, days, days_length, lent),
-                    plain_index_days(same_instants, count, right_days, days_length, right));
+                    answer = plain_index_days(same_instants, count, right_days, days_length, right));
     hold("ovenquill_index_days in its days", (int64_t)count, days, right_days, days_bytes);
     hold("ovenquill_index_days in its instants", (int64_t)count, lent_instants, same_instants, instants_bytes);
+    return answer;
 }
 
 /* What is tried */
@@ -101,6 +104,11 @@ static const int64_t edges[] = {
 static int64_t random_instant(void)
 {
     return random_within(OVENQUILL_FIRST_INSTANT, OVENQUILL_LAST_INSTANT);
+}
+
+static size_t random_place(size_t n)
+{
+    return (size_t)random_within(0, (int64_t)n - 1);
 }
 
 /* Each edge as each number of each call. */
@@ -261,60 +269,280 @@ static void check_reader(void)
 
 static const int64_t bad[] = {OVENQUILL_FIRST_INSTANT - 1, OVENQUILL_LAST_INSTANT + 1, INT64_MIN, INT64_MAX};
 
-/* Fills a list with instants that are accepted, some of them edges. */
-static void fill(int64_t *instants, size_t n)
+/* How an index goes up: from its first instant by steps of at most `step`, and by a wide jump after every `run` instants. */
+struct rise {
+    int64_t first, step;
+    size_t run;
+};
+
+#define NO_JUMPS SIZE_MAX
+static const struct rise rises[] = {
+    /* one instant over and over; steps of 0 and 1, to the end of the range and across midnight */
+    {OVENQUILL_FIRST_INSTANT, 0, NO_JUMPS},
+    {OVENQUILL_LAST_INSTANT, 0, NO_JUMPS},
+    {OVENQUILL_LAST_INSTANT - 20, 1, NO_JUMPS},
+    {-20, 1, NO_JUMPS},
+    /* all of one day, some 64 and some 16 to a day, and days from one to the next */
+    {RIGHT_INSTANT, PAPER_SECOND / 2, NO_JUMPS},
+    {RIGHT_INSTANT, OVENQUILL_INSTANTS_PER_DAY / 32, NO_JUMPS},
+    {-OVENQUILL_INSTANTS_PER_DAY, OVENQUILL_INSTANTS_PER_DAY / 8, NO_JUMPS},
+    {OVENQUILL_FIRST_INSTANT, 4 * OVENQUILL_INSTANTS_PER_DAY, NO_JUMPS},
+    /* years from one to the next, or from one run to the next */
+    {OVENQUILL_FIRST_INSTANT, 0, 1},
+    {OVENQUILL_FIRST_INSTANT, 1, 8},
+    {OVENQUILL_FIRST_INSTANT, PAPER_SECOND, 16},
+    {OVENQUILL_FIRST_INSTANT, PAPER_SECOND, 32},
+    {OVENQUILL_FIRST_INSTANT, PAPER_SECOND, 37},
+};
+
+static int64_t clamped(int64_t instant)
 {
-    static const int64_t good[] = {OVENQUILL_FIRST_INSTANT, -1, 0, OVENQUILL_INSTANTS_PER_DAY - 1, OVENQUILL_LAST_INSTANT};
-    size_t i;
-    for (i = 0; i < n; i++)
-        instants[i] = i % 8 == 0 ? good[i / 8 % COUNT(good)] : random_instant();
+    if (instant < OVENQUILL_FIRST_INSTANT)
+        return OVENQUILL_FIRST_INSTANT;
+    return instant > OVENQUILL_LAST_INSTANT ? OVENQUILL_LAST_INSTANT : instant;
 }
 
-/* Lists of up to SHORT_LIST, equal and unequal, with a bad instant at every index and with none. */
+/* Fills a list with instants that are accepted; the jumps are as wide as the range has room for. */
+static void fill(int64_t *instants, size_t n, struct rise rise)
+{
+    const int64_t jump = (OVENQUILL_LAST_INSTANT - rise.first) / (int64_t)(n / rise.run + 1);
+    int64_t instant = rise.first;
+    size_t i;
+    for (i = 0; i < n; i++) {
+        instants[i] = instant;
+        instant = clamped(instant + random_within(0, (i + 1) % rise.run == 0 ? jump : rise.step));
+    }
+}
+
+/* By how much an instant is smaller than the one before it: within a day, and by more than 32 bits hold. */
+static const int64_t falls[] = {1, PAPER_SECOND, OVENQUILL_INSTANTS_PER_DAY, INT64_C(1) << 31, INT64_C(1) << 32,
+                                OVENQUILL_LAST_INSTANT - OVENQUILL_FIRST_INSTANT};
+
+/* The form of a fall: twice the place of its size in `falls`, and one more where the first of the two instants goes up. */
+#define FALL_FORMS (2 * COUNT(falls))
+#define LEAST_FALL 0
+#define WIDEST_FALL (FALL_FORMS - 2)
+#define FIRST_GOES_UP 1
+
+/* Makes the second of two instants smaller than the first, as far as the range has room for that size. */
+static void let_fall(int64_t *pair, size_t form)
+{
+    const int64_t by = falls[form / 2];
+    if (form % 2 == FIRST_GOES_UP) {
+        if (pair[1] == OVENQUILL_LAST_INSTANT)
+            pair[1]--;
+        pair[0] = clamped(pair[1] + by);
+    } else {
+        if (pair[0] == OVENQUILL_FIRST_INSTANT)
+            pair[0]++;
+        pair[1] = clamped(pair[0] - by);
+    }
+}
+
+static void try_accepted(const int64_t *instants, size_t n)
+{
+    same("an index that never falls", (int64_t)n, try_index(instants, n, n), (int64_t)n);
+}
+
+/* Lets an accepted index fall at a place. */
+static void try_fall(int64_t *instants, size_t n, size_t i, size_t form)
+{
+    int64_t *pair = instants + i - 1;
+    const int64_t kept[2] = {pair[0], pair[1]};
+    let_fall(pair, form);
+    same("an index that falls", (int64_t)i, try_index(instants, n, n), OVENQUILL_OUT_OF_ORDER);
+    memcpy(pair, kept, sizeof kept);
+}
+
+/* Lists of up to SHORT_LIST by every rise: as they are, with equal neighbours at every place, and with a fall at every place. */
 #define SHORT_LIST 70
 static void check_short_lists(void)
 {
     int64_t instants[SHORT_LIST];
-    size_t n, i;
-    for (n = 0; n <= SHORT_LIST; n++) {
-        fill(instants, n);
-        for (i = 0; i <= SHORT_LIST; i++)
-            try_index(instants, n, i);
-        for (i = n; i-- > 0;) {
-            const int64_t kept = instants[i];
-            instants[i] = bad[(n + i) % COUNT(bad)];
-            try_index(instants, n, n);
-            try_index(instants, n, n - 1);
-            try_index(instants, n, n + 1);
-            if (n % 2 == 0) /* in the other lists the later ones stay bad: the first is named */
+    size_t n, i, r;
+    for (n = 0; n <= SHORT_LIST; n++)
+        for (r = 0; r < COUNT(rises); r++) {
+            fill(instants, n, rises[r]);
+            try_accepted(instants, n);
+            for (i = 1; i < n; i++) {
+                const int64_t kept = instants[i];
+                instants[i] = instants[i - 1];
+                try_accepted(instants, n);
                 instants[i] = kept;
+                try_fall(instants, n, i, (n + i + r) % FALL_FORMS);
+            }
+        }
+}
+
+/* A list of two instants only, the smaller one up to a place and the larger one from there on, and the other way round. */
+static void try_two_instants(int64_t *instants, size_t n, size_t i, const int64_t *pair)
+{
+    size_t k;
+    for (k = 0; k < n; k++)
+        instants[k] = pair[k >= i];
+    try_accepted(instants, n);
+    for (k = 0; k < n; k++)
+        instants[k] = pair[k < i];
+    same("an index that falls once", (int64_t)i, try_index(instants, n, n), OVENQUILL_OUT_OF_ORDER);
+}
+
+static const int64_t across_midnight[2] = {-1, 0};
+
+/* The least and the widest falls, within a day and between days, at every place. */
+static void check_two_instants(void)
+{
+    static const int64_t pairs[][2] = {
+        {OVENQUILL_FIRST_INSTANT, OVENQUILL_LAST_INSTANT},
+        {OVENQUILL_FIRST_INSTANT, OVENQUILL_FIRST_INSTANT + 1},
+        {OVENQUILL_LAST_INSTANT - 1, OVENQUILL_LAST_INSTANT},
+        {0, OVENQUILL_INSTANTS_PER_DAY - 1},
+    };
+    int64_t instants[SHORT_LIST];
+    size_t n, i, p;
+    for (n = 2; n <= SHORT_LIST; n++)
+        for (i = 1; i < n; i++) {
+            try_two_instants(instants, n, i, across_midnight);
+            for (p = 0; p < COUNT(pairs); p++)
+                try_two_instants(instants, n, i, pairs[p]);
+        }
+}
+
+/* Lists that fall again and again, from every place on: the first fall is named. */
+static void check_many_falls(void)
+{
+    int64_t instants[SHORT_LIST];
+    size_t n, i;
+    for (n = 2; n <= SHORT_LIST; n++) {
+        fill(instants, n, rises[n % COUNT(rises)]);
+        for (i = n - 1; i > 0; i--) {
+            let_fall(instants + i - 1, n % COUNT(falls) * 2 + FIRST_GOES_UP);
+            same("an index that falls and falls", (int64_t)i, try_index(instants, n, n), OVENQUILL_OUT_OF_ORDER);
         }
     }
 }
 
-/* Long lists, equal and unequal by a little or by a power of two, with a bad instant at some indexes and with none. */
-static void check_long_lists(void)
+/* Lists with a bad instant at every place, alone and beside a fall at every place: the first bad one is named. */
+static void check_bad_instants(void)
 {
-    static const size_t lengths[] = {255, 256, 256 + SHORT_LIST, 1000, 65536 + 1};
-    static const size_t apart[] = {0, 1, 256, 65536};
+    int64_t instants[SHORT_LIST];
+    size_t n, i, j;
+    for (n = 1; n <= SHORT_LIST; n++) {
+        fill(instants, n, rises[n % COUNT(rises)]);
+        for (i = n; i-- > 0;) {
+            const int64_t kept = instants[i];
+            instants[i] = bad[(n + i) % COUNT(bad)];
+            same("an index with a bad instant", (int64_t)i, try_index(instants, n, n), OVENQUILL_OUT_OF_RANGE);
+            if (n % 2 == 0) /* in the other lists the later ones stay bad */
+                instants[i] = kept;
+        }
+    }
+    for (n = 2; n <= SHORT_LIST; n += n < 9 ? 1 : 15)
+        for (i = 1; i < n; i++)
+            for (j = 0; j < n; j++) {
+                fill(instants, n, rises[(i + j) % COUNT(rises)]);
+                let_fall(instants + i - 1, j % FALL_FORMS);
+                instants[j] = bad[(i + j) % COUNT(bad)];
+                same("a fall beside a bad instant", (int64_t)j, try_index(instants, n, n), OVENQUILL_OUT_OF_RANGE);
+            }
+}
+
+/* Lists of instants and of days of every two lengths; the instants are right, then fall, and then have a bad one too. */
+static void check_lengths(void)
+{
+    int64_t instants[SHORT_LIST];
+    size_t n, days_length;
+    for (n = 0; n <= SHORT_LIST; n++)
+        for (days_length = 0; days_length <= SHORT_LIST; days_length++) {
+            fill(instants, n, rises[n % COUNT(rises)]);
+            try_index(instants, n, days_length);
+            if (n > 1)
+                let_fall(instants + random_place(n - 1), days_length % FALL_FORMS);
+            try_index(instants, n, days_length);
+            if (n > 0)
+                instants[random_place(n)] = bad[days_length % COUNT(bad)];
+            try_index(instants, n, days_length);
+        }
+}
+
+/* A long list by every rise, with a fall at its last place, and with one at each place that is its turn. */
+static void try_long_rises(int64_t *instants, size_t n, size_t thinned)
+{
+    size_t r, i;
+    for (r = 0; r < COUNT(rises); r++) {
+        fill(instants, n, rises[r]);
+        try_accepted(instants, n);
+        try_fall(instants, n, n - 1, r % FALL_FORMS);
+        for (i = 1 + r; i < n; i += COUNT(rises) * thinned) {
+            try_fall(instants, n, i, LEAST_FALL + r % 2);
+            try_fall(instants, n, i, WIDEST_FALL + r % 2);
+        }
+    }
+}
+
+/* Long lists, equal and unequal by a little or by a power of two, with a fall and with a bad instant at many places. */
+static void check_long_lists(int rounds)
+{
+    static const size_t lengths[] = {127, 128, 129, 255, 256, 256 + SHORT_LIST, 1000, 65536 + 1};
+    static const size_t apart[] = {1, 256, 65536};
     static int64_t instants[65536 + 1];
     size_t n, i;
-    fill(instants, COUNT(instants));
     for (n = 0; n < COUNT(lengths); n++) {
-        const size_t length = lengths[n], indexes[] = {length - 1, length / 2, 256, 255, 0};
+        const size_t length = lengths[n], thinned = 1 + length * length / (1 + 500 * (size_t)rounds);
+        const size_t places[] = {length - 1, length / 2, 256, 255, 0};
+        for (i = 1; i < length; i += thinned)
+            try_two_instants(instants, length, i, across_midnight);
+        try_long_rises(instants, length, thinned);
+        for (i = 1; i < length; i *= 2)
+            try_fall(instants, length, i, LEAST_FALL);
         for (i = 0; i < COUNT(apart); i++)
             if (apart[i] <= length) {
                 try_index(instants, length, length - apart[i]);
                 try_index(instants, length - apart[i], length);
             }
-        for (i = 0; i < COUNT(indexes); i++)
-            if (indexes[i] < length) {
-                const int64_t kept = instants[indexes[i]];
-                instants[indexes[i]] = bad[i % COUNT(bad)];
+        for (i = 0; i < COUNT(places); i++)
+            if (places[i] < length) {
+                const int64_t kept = instants[places[i]];
+                instants[places[i]] = bad[i % COUNT(bad)];
                 try_index(instants, length, length);
-                instants[indexes[i]] = kept;
+                instants[places[i]] = kept;
             }
     }
+}
+
+/* Lists of random lengths, some with equal neighbours, falls or bad instants at random places. */
+static void check_random_lists(int rounds)
+{
+    static int64_t instants[1 << 10];
+    while (rounds-- > 0) {
+        const size_t n = 2 + random_place((COUNT(instants) - 1) >> random_within(0, 9));
+        int64_t changes;
+        fill(instants, n, rises[random_place(COUNT(rises))]);
+        for (changes = random_within(0, 2); changes > 0; changes--) {
+            int64_t *pair = instants + random_place(n - 1);
+            pair[1] = pair[0];
+        }
+        for (changes = random_within(-1, 2); changes > 0; changes--)
+            let_fall(instants + random_place(n - 1), random_place(FALL_FORMS));
+        for (changes = random_within(-5, 2); changes > 0; changes--)
+            instants[random_place(n)] = bad[random_place(COUNT(bad))];
+        try_index(instants, n, n);
+    }
+}
+
+/* Lists that begin wherever their types may: the other blocks begin at multiples of 16 bytes. */
+static void check_alignments(void)
+{
+    int64_t instants[SHORT_LIST + 1], place = -1;
+    int32_t days[SHORT_LIST + 3], right[SHORT_LIST];
+    size_t n, i, j;
+    for (n = 0; n <= SHORT_LIST; n++)
+        for (i = 0; i <= 1; i++)
+            for (j = 0; j <= 3; j++) {
+                fill(instants + i, n, rises[n % COUNT(rises)]);
+                same("an index anywhere", (int64_t)n, ovenquill_index_days(instants + i, n, days + j, n, &place),
+                     plain_index_days(instants + i, n, right, n, &place));
+                same("the days of an index anywhere", (int64_t)n, memcmp(days + j, right, n * sizeof *right), 0);
+            }
 }
 
 /* Each constant at, beside and far outside the ends of its limits. */
@@ -456,11 +684,7 @@ static void check_unset_places(void)
 
 static void check_unset_buffers(void)
 {
-    const int64_t instants[] = {-1, 0, RIGHT_INSTANT}, with_a_bad_one[] = {-1, INT64_MAX, 0};
-    const size_t n = COUNT(instants), position_label = OVENQUILL_POSITION_LABEL_MIN_BYTES;
-    int64_t *place = (int64_t *)malloc(sizeof *place), ignored;
-    int32_t *days = (int32_t *)malloc(sizeof *days * COUNT(instants));
-    int32_t ignored_days[COUNT(instants)];
+    const size_t position_label = OVENQUILL_POSITION_LABEL_MIN_BYTES;
     SAME_WITH_UNSET(uint8_t, uint8_t, 99, LABEL, ovenquill_write_instant(-1, lent, 99), plain_write_instant(-1, right, 99));
     SAME_WITH_UNSET(uint8_t, uint8_t, 9, 0, ovenquill_write_instant(-1, lent, 9), plain_write_instant(-1, right, 9));
     SAME_WITH_UNSET(uint8_t, uint8_t, 99, 0, ovenquill_write_instant(INT64_MAX, lent, 99),
@@ -469,17 +693,35 @@ static void check_unset_buffers(void)
                     plain_write_position(0, right, 99));
     SAME_WITH_UNSET(uint8_t, uint8_t, 9, 0, ovenquill_write_position(0, lent, 9), plain_write_position(0, right, 9));
     SAME_WITH_UNSET(uint8_t, uint8_t, 99, 0, ovenquill_write_position(-1, lent, 99), plain_write_position(-1, right, 99));
-    SAME_WITH_UNSET(int32_t, int32_t, n, n * sizeof(int32_t), ovenquill_index_days(instants, n, lent, n, place),
-                    plain_index_days(instants, n, right, n, &ignored));
-    REFUSED_WITH_UNSET(int64_t, ovenquill_index_days(instants, n - 1, days, n, lent),
-                       plain_index_days(instants, n - 1, ignored_days, n, right));
-    DONE_WITH_UNSET(int64_t, ovenquill_index_days(with_a_bad_one, n, days, n, lent),
-                    plain_index_days(with_a_bad_one, n, ignored_days, n, right));
-    free(place);
-    free(days);
 }
 
-/* An argument is how many random rounds are made. */
+static void check_unset_index(void)
+{
+    int64_t instants[SHORT_LIST], falling[SHORT_LIST], with_a_bad_one[SHORT_LIST], ignored;
+    int32_t ignored_days[SHORT_LIST];
+    size_t n;
+    for (n = 2; n <= SHORT_LIST; n++) {
+        int64_t *place = (int64_t *)malloc(sizeof *place);
+        int32_t *days = (int32_t *)malloc(n * sizeof *days);
+        fill(instants, SHORT_LIST, rises[n % COUNT(rises)]);
+        memcpy(falling, instants, sizeof falling);
+        let_fall(falling + n - 2, LEAST_FALL);
+        memcpy(with_a_bad_one, falling, sizeof with_a_bad_one);
+        with_a_bad_one[n / 2] = INT64_MAX;
+        SAME_WITH_UNSET(int32_t, int32_t, n, n * sizeof(int32_t), ovenquill_index_days(instants, n, lent, n, place),
+                        plain_index_days(instants, n, right, n, &ignored));
+        REFUSED_WITH_UNSET(int64_t, ovenquill_index_days(with_a_bad_one, n - 1, days, n, lent),
+                           plain_index_days(with_a_bad_one, n - 1, ignored_days, n, right));
+        DONE_WITH_UNSET(int64_t, ovenquill_index_days(with_a_bad_one, n, days, n, lent),
+                        plain_index_days(with_a_bad_one, n, ignored_days, n, right));
+        DONE_WITH_UNSET(int64_t, ovenquill_index_days(falling, n, days, n, lent),
+                        plain_index_days(falling, n, ignored_days, n, right));
+        free(place);
+        free(days);
+    }
+}
+
+/* An argument is how many random rounds are made; the fewer they are, the fewer places of long lists are tried. */
 int main(int argc, char **argv)
 {
     const int rounds = argc > 1 ? atoi(argv[1]) : 20000;
@@ -488,12 +730,19 @@ int main(int argc, char **argv)
     check_writers();
     check_reader();
     check_short_lists();
-    check_long_lists();
+    check_two_instants();
+    check_many_falls();
+    check_bad_instants();
+    check_lengths();
+    check_long_lists(rounds);
+    check_random_lists(rounds);
+    check_alignments();
     check_limits();
     check_ends();
     check_constants(rounds / 4);
     check_null();
     check_unset_places();
     check_unset_buffers();
+    check_unset_index();
     return finish("lent blocks");
 }
