@@ -1,7 +1,7 @@
 /*
  * Document 01's rows, "Numbers to try", and the words of change request One on reading positions, of Three on small letters,
- * of Four on weekdays, with a week of dates by the names and the numbers of their days, and of Five on the transport clock.
- * Compiled as C and as C++.
+ * of Four on weekdays, with a week of dates by the names and the numbers of their days, of Five on the transport clock, and of
+ * Six on the order of an index. Compiled as C and as C++.
  */
 #include <string.h>
 
@@ -325,6 +325,69 @@ static void check_batches(void)
     }
 }
 
+/* An index of three instants, whose days never fall. */
+static void check_accepted_index(int64_t first, int64_t second, int64_t third)
+{
+    const int64_t instants[3] = {first, second, third};
+    int32_t days[3] = {7, 7, 7};
+    int64_t place = -1, day;
+    size_t i;
+    same("an accepted index", first, ovenquill_index_days(instants, 3, days, 3, &place), 3);
+    same("the place of an accepted index", first, place, -1);
+    for (i = 0; i < 3; i++) {
+        same("a day by itself", instants[i], ovenquill_day_of_instant(instants[i], &day), 0);
+        same("a day of an accepted index", instants[i], days[i], day);
+    }
+    same("the days never fall", first, days[0] <= days[1] && days[1] <= days[2], 1);
+}
+
+/* An index of three instants with some days, which are kept; so is the place, -1, where the refusal has none. */
+static void check_refused_index(int64_t first, int64_t second, int64_t third, size_t days_length, int64_t refusal,
+                                int64_t right_place)
+{
+    const int64_t instants[3] = {first, second, third};
+    int32_t days[4] = {7, 7, 7, 7};
+    int64_t place = -1;
+    size_t i;
+    same("a refused index", first, ovenquill_index_days(instants, 3, days, days_length, &place), refusal);
+    same("the place of a refused index", first, place, right_place);
+    for (i = 0; i < COUNT(days); i++)
+        same("a day of a refused index", (int64_t)i, days[i], 7);
+}
+
+/*
+ * "Refuse it with 15 and the place of the first instant smaller than the one before it. Equal neighbours are fine. The order
+ * is now 12, 4, 15, and nothing is written on any of them. With this, the days handed out never fall either."
+ */
+static void check_order_of_index(void)
+{
+    const int64_t first = -62167219200000, last = 253402300799999;
+    check_accepted_index(5, 5, 5);
+    check_accepted_index(-1, -1, 0);
+    check_accepted_index(86399999, 86400000, 86400000);
+    check_accepted_index(first, first, last);
+    check_accepted_index(first, last, last);
+    /* the place is that of the later one: a fall within a day, one between days, several, and those of the range's ends */
+    check_refused_index(0, 2, 1, 3, OVENQUILL_OUT_OF_ORDER, 2);
+    check_refused_index(2, 1, 2, 3, OVENQUILL_OUT_OF_ORDER, 1);
+    check_refused_index(0, 86400000, 86399999, 3, OVENQUILL_OUT_OF_ORDER, 2);
+    check_refused_index(0, -1, -1, 3, OVENQUILL_OUT_OF_ORDER, 1);
+    check_refused_index(2, 1, 0, 3, OVENQUILL_OUT_OF_ORDER, 1);
+    check_refused_index(first, last, first, 3, OVENQUILL_OUT_OF_ORDER, 2);
+    /* 4 before 15, wherever the two stand */
+    check_refused_index(1, 0, last + 1, 3, OVENQUILL_OUT_OF_RANGE, 2);
+    check_refused_index(1, 0, first - 1, 3, OVENQUILL_OUT_OF_RANGE, 2);
+    check_refused_index(1, INT64_MIN, 0, 3, OVENQUILL_OUT_OF_RANGE, 1);
+    check_refused_index(last + 1, 1, 0, 3, OVENQUILL_OUT_OF_RANGE, 0);
+    check_refused_index(first - 1, 1, 0, 3, OVENQUILL_OUT_OF_RANGE, 0);
+    check_refused_index(INT64_MAX, INT64_MIN, 0, 3, OVENQUILL_OUT_OF_RANGE, 0);
+    /* 12 before both */
+    check_refused_index(0, 1, 2, 2, OVENQUILL_UNEQUAL_LENGTHS, -1);
+    check_refused_index(1, 0, 2, 4, OVENQUILL_UNEQUAL_LENGTHS, -1);
+    check_refused_index(1, 0, last + 1, 2, OVENQUILL_UNEQUAL_LENGTHS, -1);
+    check_refused_index(last + 1, 1, 0, 4, OVENQUILL_UNEQUAL_LENGTHS, -1);
+}
+
 int main(void)
 {
     check_calendar();
@@ -337,5 +400,6 @@ int main(void)
     check_steps();
     check_refused_values();
     check_batches();
-    return finish("the numbers of document 01 and of change requests One, Three, Four and Five");
+    check_order_of_index();
+    return finish("the numbers of document 01 and of change requests One, Three, Four, Five and Six");
 }
