@@ -142,6 +142,7 @@ static void instant_rows(void)
                                        0,                  1683729000000LL,     -62167219200000LL,
                                        -62167219200001LL,  253402300799999LL,   253402300800000LL};
     static const int64_t across[] = {-1, 0, 86399999, 86400000}, outside_last[] = {0, 253402300800000LL};
+    static const int64_t falling[] = {0, 86400000, 86399999}, equal[] = {5, 5}, both_wrong[] = {1, 0, 253402300800000LL};
     size_t i;
     for (i = 0; i < sizeof instants / sizeof *instants; i++)
         instant_row(instants[i]);
@@ -152,6 +153,9 @@ static void instant_rows(void)
     fields_row(2016, 12, 31, 24, 0, 0, 0);
     index_row(NULL, across, 4, 4, 4);
     index_row(NULL, outside_last, 2, 2, 2);
+    index_row(NULL, falling, 3, 3, 3);
+    index_row(NULL, equal, 2, 2, 2);
+    index_row(NULL, both_wrong, 3, 3, 3);
     index_row("of no instants", across, 0, 0, 0);
     index_row("of one instant with two days", across, 1, 2, 0);
 }
