@@ -13,9 +13,9 @@
  *
  * Every call returns 0 or more where it is done, and below 0 where it is refused: the refusal's number negated, which has a
  * macro below. The refusals of a call are listed in the order in which they are looked for; the first whose cause holds is
- * answered. Some refusals hand back more than their number: the two about an instant of an index write where it stands to `place`,
- * and the one of a claim with a difference below its bound writes the least input to `least`. Both are unchanged after every other
- * answer. Nothing else that was lent to a refused call is changed.
+ * answered. Three refusals hand back more than their number: those about an instant of an index write where it stands to
+ * `place`, and a claim with a difference below its bound writes the least such input to `least`. After every other answer of
+ * these calls `place` and `least` are unchanged. Nothing else that was lent to a refused call is changed.
  *
  * What is asked of the pointers that are handed in:
  *   - A pointer with a length points to that many elements. It may be null only where the length is 0.
@@ -339,16 +339,20 @@ int64_t ovenquill_join_instant(int64_t year, int64_t month, int64_t day, int64_t
                                int64_t millisecond, int64_t *instant);
 
 /*
- * The days of a recording index, whose instants never go down. Writes the day count of each instant, as ovenquill_day_of_instant
- * gives it, to the same index of `days`, and answers how many it wrote, `count`; two empty lists are accepted. `place` is then
- * unchanged. The days that are written never go down either.
+ * The days of a recording index, which is refused where its instants go down; equal instants are accepted. Writes the day
+ * count of each instant, as ovenquill_day_of_instant gives it, to the same index of `days`, and answers how many it wrote,
+ * `count`; two empty lists are accepted. `place` is then unchanged. The days that are written never go down either. The time is
+ * linear in `count`.
  *
- * Refusals, after which no element of `days` is changed:
+ * Each call looks at its own list only: whoever hands in an index in parts compares the last instant of a part with the first
+ * of the next. For instants in any order there is ovenquill_day_of_instant.
+ *
+ * Refusals, after which no element of `days` is changed; an index that is written to `place` is counted from 0:
  *   OVENQUILL_UNEQUAL_LENGTHS   count is not days_length; `place` is unchanged
- *   OVENQUILL_OUT_OF_RANGE      an instant anywhere outside OVENQUILL_FIRST_INSTANT to OVENQUILL_LAST_INSTANT; the index of the
- *                               first such, counted from 0, is written to `place`
- *   OVENQUILL_OUT_OF_ORDER      an instant smaller than the one before it; the index of the first such, the later of the two,
- *                               is written to `place`. Equal instants are accepted.
+ *   OVENQUILL_OUT_OF_RANGE      an instant outside OVENQUILL_FIRST_INSTANT to OVENQUILL_LAST_INSTANT, also one behind instants
+ *                               that go down; the index of the first such instant is written to `place`
+ *   OVENQUILL_OUT_OF_ORDER      an instant smaller than the one before it; the index of the first such instant, 1 or more, is
+ *                               written to `place`
  */
 int64_t ovenquill_index_days(const int64_t *instants, size_t count, int32_t *days, size_t days_length, int64_t *place);
 
