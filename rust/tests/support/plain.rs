@@ -1,8 +1,8 @@
 //! Document 01 and change requests One, Three, Four, Five and Six in plain Rust, written from their text and sharing nothing with
 //! the library but the types of dates, fields, cues, constants and clocks. The calendar is a table of every day, built by stepping
-//! from each day to the next; instants go by `div_euclid` and `rem_euclid`, an index by one search for each of its refusals, labels
-//! by `write!`, the reader of instants byte by byte, timestamps and cue lines by splitting them at their marks and blanks, the
-//! constants by trying every n, and the clock by trying every step that may fit.
+//! from each day to the next; instants go by `div_euclid` and `rem_euclid`, an index by a search for a bad instant and then one for
+//! a fall, labels by `write!`, the reader of instants byte by byte, timestamps and cue lines by splitting them at their marks and
+//! blanks, the constants by trying every n, and the clock by trying every step that may fit.
 
 use super::answer::Answer::{self, Refused, RefusedAt, Value};
 use ovenquill::{Clock, ClockPosition, Constants, Cue, Date, Fields};
