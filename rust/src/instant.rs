@@ -123,6 +123,7 @@ pub fn join_instant(fields: Fields) -> Result<i64, Refusal> {
 ///
 /// let error = index_days(&[3, 5, 5, 4], &mut [0; 4]).unwrap_err();
 /// assert_eq!((error.refusal, error.place), (Refusal::OutOfOrder, Some(3)));
+/// assert_eq!(error.to_string(), "index instant smaller than the one before it, first at place 3");
 ///
 /// let error = index_days(&[0, i64::MAX], &mut [0; 3]).unwrap_err();
 /// assert_eq!((error.refusal, error.place), (Refusal::UnequalLengths, None));
@@ -133,7 +134,7 @@ pub struct IndexError {
     /// The refusal.
     pub refusal: Refusal,
     /// Where the refusal is about an instant, the place of the first such, counted from 0: the first outside the range, or
-    /// the first that is smaller than the one before it.
+    /// the first that is smaller than the one before it, which is then at `place - 1`.
     pub place: Option<usize>,
 }
 
@@ -153,7 +154,8 @@ impl From<IndexError> for Refusal {
     }
 }
 
-/// Writes the day of each instant of a recording to the same place of a second list, and answers how many it wrote.
+/// Writes the day of each instant of a recording index, whose instants never go down, to the same place of a second list, and
+/// answers how many it wrote. Places are counted from 0.
 ///
 /// Refused are lists of unequal length ([`Refusal::UnequalLengths`]), then an instant outside [`INSTANTS`], also one behind
 /// instants that go down ([`Refusal::OutOfRange`], with the place of the first such instant), and then an instant smaller than
@@ -167,7 +169,7 @@ impl From<IndexError> for Refusal {
 /// use ovenquill::{index_days, Refusal};
 ///
 /// let mut days = [0; 4];
-/// assert_eq!(index_days(&[-1, 0, 86399999, 86400000], &mut days), Ok(4));
+/// assert_eq!(index_days(&[-1, 0, 0, 86400000], &mut days), Ok(4));
 /// assert_eq!(days, [-1, 0, 0, 1]);
 ///
 /// let error = index_days(&[1, 0, i64::MAX, 0], &mut days).unwrap_err();

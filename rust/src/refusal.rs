@@ -132,7 +132,7 @@ refusals! {
         CLOCK_POSITIONS.start(),
         CLOCK_POSITIONS.end()
     );
-    /// An index's instant is smaller than the one before it.
+    /// An instant of an index ([`index_days`](crate::index_days)) is smaller than the one before it; equal ones are accepted.
     OutOfOrder = 15, ("index instant smaller than the one before it");
 }
 
