@@ -444,11 +444,11 @@ fn of_any_days(random: &mut Random, length: usize) -> Vec<i64> {
     list
 }
 
-/// Instants each of which follows the one before it within a minute.
-fn a_minute_apart(random: &mut Random, length: usize) -> Vec<i64> {
+/// Instants each of which follows the one before it after at most so long.
+fn apart(random: &mut Random, length: usize, most: i64) -> Vec<i64> {
     let mut instant = random.within(*INSTANTS.start(), 0);
     let next = |_| {
-        instant += random.within(0, instants::MINUTE);
+        instant += random.within(0, most);
         instant
     };
     (0..length).map(next).collect()
@@ -456,11 +456,17 @@ fn a_minute_apart(random: &mut Random, length: usize) -> Vec<i64> {
 
 fn index_lines() {
     let random = &mut Random::new(103);
-    for (what, list) in
-        [("of any days", of_any_days as fn(&mut Random, usize) -> Vec<i64>), ("a minute apart at most", a_minute_apart)]
-    {
-        let long = vec![list(random, MILLION); LONG_PARTS];
-        let short: Vec<Vec<i64>> = (0..INPUTS / 1024).map(|_| list(random, 1024)).collect();
+    for (what, most_apart) in [
+        ("of any days", None),
+        ("two hours apart at most", Some(2 * instants::HOUR)),
+        ("a minute apart at most", Some(instants::MINUTE)),
+    ] {
+        let mut list = |length| match most_apart {
+            None => of_any_days(random, length),
+            Some(most) => apart(random, length, most),
+        };
+        let long = vec![list(MILLION); LONG_PARTS];
+        let short: Vec<Vec<i64>> = (0..INPUTS / 1024).map(|_| list(1024)).collect();
         for (list, parts) in [(long, LONG_PARTS), (short, PARTS)] {
             let length = list[0].len();
             line::<Index>(

@@ -30,7 +30,7 @@ fn show(instants: &[i64], days: &[i32], out: &mut impl Write) -> Result<(), Box<
 }
 
 /// The instant at the place of a refusal; one that is out of order with the one that it follows.
-fn bad_instant(refusal: Refusal, instants: &[i64], place: usize) -> String {
+fn refused_instant(refusal: Refusal, instants: &[i64], place: usize) -> String {
     match refusal {
         Refusal::OutOfOrder => format!("{} after {}", instants[place], instants[place - 1]),
         _ => instants[place].to_string(),
@@ -43,9 +43,9 @@ fn show_refused(instants: &[i64], out: &mut impl Write) -> Result<(), Box<dyn Er
     if let Err(error) = index_days(instants, &mut days) {
         writeln!(out, "\nrefused ({}): {error}", error.refusal.number())?;
         if let Some(place) = error.place {
-            let instant = bad_instant(error.refusal, instants, place);
+            let instant = refused_instant(error.refusal, instants, place);
             let written = days.iter().filter(|&&day| day != NO_DAY).count();
-            writeln!(out, "the bad instant is {instant}; {written} days were written")?;
+            writeln!(out, "the refused instant is {instant}; {written} days were written")?;
         }
     }
     Ok(())
@@ -87,7 +87,7 @@ fn show_lines(input: impl BufRead, out: &mut impl Write) -> Result<(), Box<dyn E
         Some(place) => format!(
             "line {}: {} refused ({}): {}",
             numbers[place],
-            bad_instant(error.refusal, &instants, place),
+            refused_instant(error.refusal, &instants, place),
             error.refusal.number(),
             error.refusal
         ),

@@ -154,13 +154,13 @@ impl From<IndexError> for Refusal {
     }
 }
 
-/// Writes the day of each instant of a recording index, whose instants never go down, to the same place of a second list, and
-/// answers how many it wrote. Places are counted from 0.
+/// Writes the day of each instant of a recording index to the same place of a second list, and answers how many it wrote. An
+/// index is accepted only if its instants never go down; its days then never do either. Places are counted from 0.
 ///
 /// Refused are lists of unequal length ([`Refusal::UnequalLengths`]), then an instant outside [`INSTANTS`], also one behind
 /// instants that go down ([`Refusal::OutOfRange`], with the place of the first such instant), and then an instant smaller than
 /// the one before it ([`Refusal::OutOfOrder`], with the place of the first such instant, 1 or more); equal instants are
-/// accepted. A refused call writes no day at all. The days that are written never go down either.
+/// accepted. A refused call writes no day at all.
 ///
 /// Each call looks at its own list only: whoever hands in an index in parts compares the last instant of a part with the
 /// first of the next. For instants in any order there is [`day_of_instant`].

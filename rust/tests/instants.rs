@@ -228,6 +228,8 @@ fn try_index(instants: &[i64], days_length: usize) -> Answer<usize> {
     assert_eq!(answered, plain::index_days(instants, &mut expected), "{}", title());
     assert!(days == guarded(&expected, DAY_GUARDS), "the days are wrong: {}", title());
     assert!(lent == guarded(instants, INSTANT_GUARDS), "an instant changed: {}", title());
+    let lent_days = &days[among_guards(days_length)];
+    assert!(lent_days.windows(2).all(|pair| pair[0] <= pair[1]), "the days fall: {}", title());
     answered
 }
 
@@ -304,18 +306,6 @@ fn indexes_of_many_lengths() {
     for length in lengths() {
         for instants in recordings(&mut random, length) {
             assert_eq!(try_index(&instants, length), Value(length));
-        }
-    }
-}
-
-#[test]
-fn the_days_of_an_accepted_index_never_fall() {
-    let mut random = Random::new(60);
-    for length in lengths() {
-        for instants in recordings(&mut random, length) {
-            let mut days = vec![BEFORE; length];
-            assert_eq!(index_days(&instants, &mut days), Ok(length));
-            assert!(days.windows(2).all(|pair| pair[0] <= pair[1]), "{instants:?} {days:?}");
         }
     }
 }
@@ -525,8 +515,6 @@ fn indexes_of_unequal_lengths() {
             }
         }
     }
-    assert_eq!(answer(index_days(&[i64::MAX], &mut [])), Refused(12));
-    assert_eq!(answer(index_days(&[], &mut [BEFORE])), Refused(12));
 }
 
 #[test]

@@ -407,7 +407,7 @@ static void check_two_instants(void)
         }
 }
 
-/* Lists that fall again and again, from every place on: the first fall is named. */
+/* Lists that fall at every place, and most of them behind it too: the first fall is named. */
 static void check_many_falls(void)
 {
     int64_t instants[SHORT_LIST];

@@ -1,4 +1,4 @@
--- The laws of the index: when it is refused with 15 and where, when it is accepted, and that its days never fall.
+-- The laws of the index: each of its four answers exactly when it is given, and that its days never fall.
 use Prim.Native.Nat.{ℕ, zero, suc, _-_, _≤_, _<_}
 use mathlib.Core.Path.{_≡_, refl, sym, ap, _∙_, subst}
 use mathlib.Core.Logic.{_↔_}
@@ -10,14 +10,14 @@ use lib.Dec.{eqb, ltb}
 use lib.IntN.{ℤ, pos}
 use lib.ListN.{length, getD, length-map, List·getD-map}
 use lib.Signed.{ltZ}
-use borrow.Author.Tests.{eqb-true, ltb-true, ltb-false}
+use borrow.Author.Tests.{eqb-true, eqb-false, ltb-true, ltb-false}
 use Rattle.refusal.specs.Outcome.{Outcome, value, refused, refusedAt}
 use Rattle.refusal.proofs.Outcomes.{clash, same-value}
 use Rattle.numbers.proofs.Bools.{no-both}
 use Rattle.instant.specs.Instant.{dayOf}
 use Rattle.instant.specs.Answers.{firstBad, firstFall, indexDaysAnswer, indexDays}
-use Rattle.instant.specs.Order.{AllInRange, FallsAt, FirstFallAt, NeverFalls}
-use Rattle.instant.proofs.Lists.{bad-le, all-good, fall-found, none-found, held}
+use Rattle.instant.specs.Order.{AllInRange, FirstBadAt, FallsAt, FirstFallAt, NeverFalls}
+use Rattle.instant.proofs.Lists.{bad-le, all-good, bad-first, bad-exactly, unequal, bad-found, fall-found, none-found, held}
 use Rattle.instant.proofs.Falls.{fall-le, fall-falls, fall-first, fall-exactly, never-falls}
 use Rattle.instant.proofs.Laws.{later-day}
 
@@ -27,6 +27,21 @@ answerBy equal bad falls at fall count =
     cond (not equal) (refused 12) (cond bad (refusedAt 4 at) (cond falls (refusedAt 15 fall) (value count)))
 
 module _ (at fall count : ℕ) where
+  by-lengths : (equal bad falls : Bool) → answerBy equal bad falls at fall count ≡ refused 12 → equal ≡ false
+  unfolding answerBy
+  by-lengths false bad falls e = refl
+  by-lengths true true falls e = clash (cc)
+  by-lengths true false true e = clash (cc)
+  by-lengths true false false e = clash (cc)
+
+  by-bad :
+      (equal bad falls : Bool) (place : ℕ) → answerBy equal bad falls at fall count ≡ refusedAt 4 place → (equal ≡ true) × ((bad ≡ true) × (at ≡ place))
+  unfolding answerBy
+  by-bad false bad falls place e = clash (cc)
+  by-bad true true falls place e = (refl, (refl, cc))
+  by-bad true false true place e = let z : _≡_ {A = ℕ} 15 4 = cc in absurd (omega arith)
+  by-bad true false false place e = clash (cc)
+
   by-fall :
       (equal bad falls : Bool) (place : ℕ) → answerBy equal bad falls at fall count ≡ refusedAt 15 place →
       (equal ≡ true) × ((bad ≡ false) × ((falls ≡ true) × (fall ≡ place)))
@@ -60,11 +75,43 @@ none-is-smaller s never = go (decLt (firstFall s) (length s))
     go (no l) = omega (arith, fall-le s)
 
 module _ (instants days : List ℤ) where
-  in-range : ltb (firstBad instants) (length instants) ≡ false → AllInRange instants
+  abbrev equal : Bool
+  equal = eqb (length instants) (length days)
+
+  abbrev bad : Bool
+  bad = ltb (firstBad instants) (length instants)
+
+  abbrev falls : Bool
+  falls = ltb (firstFall instants) (length instants)
+
+  in-range : bad ≡ false → AllInRange instants
   in-range h = all-good instants (omega (arith, ltb-false (firstBad instants) (length instants) h, bad-le instants))
 
-  no-fall-left : ltb (firstFall instants) (length instants) ≡ false → firstFall instants ≡ length instants
+  no-fall-left : falls ≡ false → firstFall instants ≡ length instants
   no-fall-left h = omega (arith, ltb-false (firstFall instants) (length instants) h, fall-le instants)
+
+  -- 12, before all others
+  pub twelve-exactly : (indexDaysAnswer instants days ≡ refused 12) ↔ (length instants ≡ length days → ⊥)
+  unfolding indexDaysAnswer answerBy
+  twelve-exactly = (
+    λ e. eqb-false (length instants) (length days) (by-lengths (firstBad instants) (firstFall instants) (length instants) equal bad falls e),
+    λ h. unequal instants days h,
+  )
+
+  -- 4 and the place of the first instant outside the range, after 12 and whatever falls
+  pub four-exactly : (place : ℕ) → (indexDaysAnswer instants days ≡ refusedAt 4 place) ↔ ((length instants ≡ length days) × FirstBadAt instants place)
+  unfolding indexDaysAnswer answerBy
+  four-exactly place = (
+    λ e.
+        let t = by-bad (firstBad instants) (firstFall instants) (length instants) equal bad falls place e in (
+          eqb-true (length instants) (length days) (t .0),
+          subst (FirstBadAt instants) (t .1 .1) (bad-first instants (ltb-true (firstBad instants) (length instants) (t .1 .0))),
+        ),
+    λ h.
+        let b = bad-exactly instants place (h .1) in
+        let l = h .1 .in-list in
+        bad-found instants days (h .0) (omega arith) ∙ ap (refusedAt 4) b,
+  )
 
   -- "15 and the place of the first instant smaller than the one before it", after 12 and 4
   pub fifteen-exactly :
@@ -73,7 +120,7 @@ module _ (instants days : List ℤ) where
   unfolding indexDaysAnswer answerBy
   fifteen-exactly place = (
     λ e.
-        let t = by-fall (firstBad instants) (firstFall instants) (length instants) _ _ _ place e in (
+        let t = by-fall (firstBad instants) (firstFall instants) (length instants) equal bad falls place e in (
           eqb-true (length instants) (length days) (t .0),
           (
             in-range (t .1 .0),
@@ -94,7 +141,7 @@ module _ (instants days : List ℤ) where
   unfolding indexDaysAnswer answerBy
   accepted-exactly n = (
     λ e.
-        let t = by-none (firstBad instants) (firstFall instants) (length instants) _ _ _ n e in (
+        let t = by-none (firstBad instants) (firstFall instants) (length instants) equal bad falls n e in (
           eqb-true (length instants) (length days) (t .0),
           (
             in-range (t .1 .0),

@@ -1,4 +1,4 @@
--- The first bad instant of a list, and a list filled from the front.
+-- The first bad instant of a list, what the tests of an index decide, and a list filled from the front.
 use Prim.Native.Nat.{ℕ, zero, suc, _+_, _≤_, _<_}
 use mathlib.Core.Path.{_≡_, refl, sym, ap, _∙_}
 use mathlib.Core.Bool.{Bool, true, false, cond}
@@ -14,6 +14,7 @@ use borrow.Author.Tests.{eq-eqb, ne-eqb, lt-ltb, le-ltb}
 use Rattle.refusal.specs.Outcome.{Outcome, value, refused, refusedAt, afterCall}
 use Rattle.instant.specs.Instant.{dayOf}
 use Rattle.instant.specs.Answers.{badInstant, firstBad, firstFall, indexDaysAnswer, indexDays}
+use Rattle.instant.specs.Order.{FirstBadAt}
 
 -- at place i of a list
 module _ (s : List ℤ) (i : ℕ) where
@@ -51,6 +52,31 @@ unfolding firstBad
 all-good [] e k l = absurd (omega arith)
 all-good (instant ∷ s) e zero l = none-here (badInstant instant) (firstBad s) (length s) e .0
 all-good (instant ∷ s) e (suc k) l = all-good s (none-here (badInstant instant) (firstBad s) (length s) e .1) k (omega arith)
+
+-- the place is the least whose instant is bad
+pub bad-first : (s : List ℤ) → firstBad s < length s → FirstBadAt s (firstBad s)
+unfolding firstBad
+bad-first [] l = absurd (omega arith)
+bad-first (instant ∷ s) l = go (badInstant instant) refl l (bad-first s)
+  where
+    go :
+        (t : Bool) → badInstant instant ≡ t → cond t 0 (suc (firstBad s)) < suc (length s) →
+        (firstBad s < length s → FirstBadAt s (firstBad s)) → FirstBadAt (instant ∷ s) (cond t 0 (suc (firstBad s)))
+    go true h l f = record { in-list = omega arith; bad = h; first = λ k m. absurd (omega arith) }
+    go false h l f = let b = f (omega arith) in record { in-list = l; bad = b .bad; first = earlier b }
+      where
+        earlier : FirstBadAt s (firstBad s) → (k : ℕ) → k < suc (firstBad s) → badInstant (getD (instant ∷ s) k (pos 0)) ≡ false
+        earlier b zero m = h
+        earlier b (suc k) m = b .first k (omega arith)
+
+pub bad-exactly : (s : List ℤ) (p : ℕ) → FirstBadAt s p → firstBad s ≡ p
+unfolding firstBad
+bad-exactly [] p f = let h = f .in-list in absurd (omega arith)
+bad-exactly (instant ∷ s) zero f = rw (f .bad)
+bad-exactly (instant ∷ s) (suc p) f =
+    let h = f .in-list in
+    let rest : FirstBadAt s p = record { in-list = omega arith; bad = f .bad; first = λ k l. f .first (suc k) (omega arith) } in
+    rw (f .first 0 (omega arith)) (ap suc (bad-exactly s p rest))
 
 -- what the tests of the index decide
 module _ (instants days : List ℤ) where

@@ -1,5 +1,5 @@
--- The whole answer of each call, over all whole numbers and lists: the refusals of document 01 by their numbers and in its order, then
--- the value.
+-- The whole answer of each call, over all whole numbers and lists: the refusals by their numbers, in the order of document 01 and, of
+-- the index, of document 02, request Six; then the value.
 use Prim.Native.Nat.{ℕ, suc, _-_}
 use mathlib.Core.Bool.{Bool, cond, not, _||_}
 use mathlib.Core.List.{List, [], _∷_, map}
@@ -57,7 +57,7 @@ unfoldable pub firstBad : (instants : List ℤ) → ℕ
 firstBad [] = 0
 firstBad (instant ∷ instants) = cond (badInstant instant) 0 (suc (firstBad instants))
 
--- the place, from 0, of the first instant smaller than the one before it; the length where there is none
+-- the place, from 0, of the first instant "smaller than the one before it" (document 02, request Six); the length where there is none
 unfoldable pub firstFall : (instants : List ℤ) → ℕ
 firstFall [] = 0
 firstFall (instant ∷ []) = 1

@@ -16,6 +16,7 @@ unfoldable pub fallsFrom : (before : ℤ) → List ℤ → Bool
 fallsFrom before [] = false
 fallsFrom before (instant ∷ instants) = ltZ instant before || fallsFrom instant instants
 
--- whether a list falls on its way from the first instant of the range to the last, so whether it has a bad instant or a fall
+-- whether a list has a bad instant or a fall: whether a number is smaller than the one before it, with the first instant of the range
+-- in front of the list and the last behind it
 unfoldable pub faulty : (instants : List ℤ) → Bool
 faulty instants = fallsFrom firstInstant (instants ++ lastInstant ∷ [])

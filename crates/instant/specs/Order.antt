@@ -1,4 +1,4 @@
--- What the index's theorems speak of: instants in the range, and lists that fall or never do.
+-- What the theorems of the index speak of (document 02, request Six): instants in the range, and lists that fall or never do.
 use Prim.Native.Nat.{ℕ, _-_, _≤_, _<_}
 use mathlib.Core.Path.{_≡_}
 use mathlib.Core.Bool.{true, false}
@@ -11,6 +11,12 @@ use Rattle.instant.specs.Answers.{badInstant}
 -- every instant lies in the range
 abbrev pub AllInRange : (instants : List ℤ) → Type 0
 AllInRange instants = (k : ℕ) → k < length instants → badInstant (getD instants k (pos 0)) ≡ false
+
+-- the least place, from 0, whose instant lies outside the range
+pub record FirstBadAt (instants : List ℤ) (place : ℕ) : Type 0 where
+  pub in-list : place < length instants
+  pub bad : badInstant (getD instants place (pos 0)) ≡ true
+  pub first : (earlier : ℕ) → earlier < place → badInstant (getD instants earlier (pos 0)) ≡ false
 
 -- "smaller than the one before it", at a place counted from 0
 pub record FallsAt (numbers : List ℤ) (place : ℕ) : Type 0 where

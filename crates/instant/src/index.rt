@@ -3,10 +3,8 @@
 use super::floored;
 use super::units::FIRST_INSTANT;
 use super::units::LAST_INSTANT;
-ghost use Prim.Native.Nat.{ℕ};
 ghost use mathlib.Core.Path.{_≡_};
 ghost use mathlib.Core.List.{map, [], _∷_, _++_};
-ghost use lib.IntN.{ℤ};
 ghost use lib.ListN.{length, replicate};
 ghost use Rattle.instant.specs.Units.{lastInstant};
 ghost use Rattle.instant.specs.Instant.{dayOf};
@@ -14,8 +12,8 @@ ghost use Rattle.instant.specs.Answers.{firstBad, firstFall};
 ghost use Rattle.instant.specs.Order.{AllInRange, NeverFalls};
 ghost use Rattle.instant.specs.Checked.{fallsFrom, faulty};
 
-// Whether an instant lies outside the range or is smaller than the one before it: then the list falls on its way from the first
-// instant of the range to the last. Eight are compared before there is a branch.
+// Whether an instant lies outside the range or is smaller than the one before it. With the range's first instant in front of the list
+// and its last behind it, both are one question: whether a number is smaller than the one before it.
 pub fn is_faulty(instants: &[i64]) -> bool
     ensures { λ r. ⌜ r ≡ faulty (now (instants .entry)) ⌝ }
 {
@@ -83,18 +81,18 @@ pub fn first_fall(instants: &[i64]) -> usize
     ensures { λ r. ⌜ r ≡ firstFall (now (instants .entry)) ⌝ }
 {
     let count = instants.len();
-    let mut place = 0;
-    while count - place >= 2 {
-        let next = place + 1;
-        if instants[next] < instants[place] {
-            return next;
+    let mut earlier = 0;
+    while count - earlier >= 2 {
+        let later = earlier + 1;
+        if instants[later] < instants[earlier] {
+            return later;
         }
-        place = next;
+        earlier = later;
     }
     count
 }
 
-// The day count of each instant. A block whose first and last day are the same has no other.
+// The day count of each instant, sixteen at a time.
 pub fn fill_days(instants: &[i64], days: &mut [i32])
     requires { ⌜ (length (now instants) ≡ length (now days)) × (AllInRange (now instants) × NeverFalls (now instants)) ⌝ }
     ensures { λ r. ⌜ now (days .exit) ≡ map dayOf (now (instants .entry)) ⌝ }
@@ -109,6 +107,7 @@ pub fn fill_days(instants: &[i64], days: &mut [i32])
     fill_each(&instants[i..], &mut days[i..]);
 }
 
+// The day count of each of sixteen instants: where the first and the last are the same, there is no other.
 fn fill_block(instants: &[i64], days: &mut [i32])
     requires { ⌜ length (now instants) ≡ 16 ⌝ }
     requires { ⌜ (length (now instants) ≡ length (now days)) × (AllInRange (now instants) × NeverFalls (now instants)) ⌝ }
@@ -122,6 +121,7 @@ fn fill_block(instants: &[i64], days: &mut [i32])
     }
 }
 
+// The same day everywhere.
 fn fill_same(day: i32, days: &mut [i32])
     ensures { λ r. ⌜ now (days .exit) ≡ replicate (length (now (days .entry))) day ⌝ }
 {
@@ -132,6 +132,7 @@ fn fill_same(day: i32, days: &mut [i32])
     }
 }
 
+// The day count of each instant, one by one.
 fn fill_each(instants: &[i64], days: &mut [i32])
     requires { ⌜ (length (now instants) ≡ length (now days)) × AllInRange (now instants) ⌝ }
     ensures { λ r. ⌜ now (days .exit) ≡ map dayOf (now (instants .entry)) ⌝ }

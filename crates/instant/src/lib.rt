@@ -3,7 +3,7 @@
 //     day_of_instant(instant)                                                   day count       refusal 4
 //     split_instant(instant)                                                    fields          refusal 4
 //     join_instant(year, month, day, hour, minute, second, millisecond)         instant         refusals 1, 2, 3, then 5
-//     index_days(instants, days)                                                days written    refusals 12, then 4 and 15 with the place
+//     index_days(instants, days)                                                days written    refusals 12, 4, 15; the last two with the place
 //
 // The module `units` has the units of an instant and its range.
 

@@ -107,7 +107,7 @@ fn has_fault(instants: &[i64]) -> bool {
     instants.windows(2).fold(first, |signs, pair| signs | outside(pair[1]) | pair[1].wrapping_sub(pair[0])) < 0
 }
 
-/// The same, from the first instant of the range to the last, eight neighbours to a branch.
+/// The same, from the first instant of the range to the last, eight neighbours in a turn.
 #[inline(always)]
 fn falls(instants: &[i64]) -> bool {
     let mut before = FIRST;

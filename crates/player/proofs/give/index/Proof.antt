@@ -1,4 +1,4 @@
--- Each case returns, and leaves in the place, what its outcome says; the count and the bad instant's place fit by what is required.
+-- Each case returns, and leaves in the place, what its outcome says; the count and an instant's place fit by what is required.
 use mathlib.Core.Path.{refl, sym, ap}
 use native.Mathlib.Omega.{arith}
 use denote.Ref.{now}
