@@ -258,6 +258,16 @@ fn recordings(random: &mut Random, length: usize) -> Vec<Vec<i64>> {
     kinds.map(|largest_steps| recording(random, largest_steps, length)).collect()
 }
 
+/// Tries something with recordings of many lengths, at each of their places from the first one on.
+fn at_every_place(seed: u64, first: usize, tried: impl Fn(&[i64], usize)) {
+    let mut random = Random::new(seed);
+    for length in lengths() {
+        for instants in recordings(&mut random, length) {
+            (first..length).for_each(|place| tried(&instants, place));
+        }
+    }
+}
+
 /// The same list with another instant at one place.
 fn with(instants: &[i64], place: usize, instant: i64) -> Vec<i64> {
     let mut changed = instants.to_vec();
@@ -325,29 +335,19 @@ fn indexes_with_a_new_day_at_every_place() {
 
 #[test]
 fn indexes_with_equal_neighbours_at_every_place() {
-    let mut random = Random::new(61);
-    for length in lengths() {
-        for instants in recordings(&mut random, length) {
-            for place in 1..length {
-                let equal = with(&instants, place, instants[place - 1]);
-                assert_eq!(try_index(&equal, length), Value(length));
-            }
-        }
-    }
+    at_every_place(61, 1, |instants, place| {
+        let equal = with(instants, place, instants[place - 1]);
+        assert_eq!(try_index(&equal, equal.len()), Value(equal.len()));
+    });
 }
 
 #[test]
 fn indexes_with_a_fall_at_every_place() {
-    let mut random = Random::new(62);
-    for length in lengths() {
-        for instants in recordings(&mut random, length) {
-            for place in 1..length {
-                for fallen in with_a_fall(&instants, place) {
-                    assert_eq!(try_index(&fallen, length), RefusedAt(15, place as i64));
-                }
-            }
+    at_every_place(62, 1, |instants, place| {
+        for fallen in with_a_fall(instants, place) {
+            assert_eq!(try_index(&fallen, fallen.len()), RefusedAt(15, place as i64));
         }
-    }
+    });
 }
 
 #[test]
@@ -369,19 +369,14 @@ fn indexes_with_several_falls() {
 
 #[test]
 fn indexes_with_a_bad_instant_at_every_place() {
-    let mut random = Random::new(64);
-    for length in lengths() {
-        for instants in recordings(&mut random, length) {
-            for place in 0..length {
-                for edge in [FIRST_INSTANT, LAST_INSTANT, -1, 0] {
-                    try_index(&with(&instants, place, edge), length);
-                }
-                for bad in BAD_INSTANTS {
-                    assert_eq!(try_index(&with(&instants, place, bad), length), RefusedAt(4, place as i64));
-                }
-            }
+    at_every_place(64, 0, |instants, place| {
+        for edge in [FIRST_INSTANT, LAST_INSTANT, -1, 0] {
+            try_index(&with(instants, place, edge), instants.len());
         }
-    }
+        for bad in BAD_INSTANTS {
+            assert_eq!(try_index(&with(instants, place, bad), instants.len()), RefusedAt(4, place as i64));
+        }
+    });
 }
 
 #[test]

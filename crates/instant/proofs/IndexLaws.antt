@@ -1,5 +1,5 @@
 -- The laws of the index: each of its four answers exactly when it is given, and that its days never fall.
-use Prim.Native.Nat.{ℕ, zero, suc, _-_, _≤_, _<_}
+use Prim.Native.Nat.{ℕ, suc, _-_, _<_}
 use mathlib.Core.Path.{_≡_, refl, sym, ap, _∙_, subst}
 use mathlib.Core.Logic.{_↔_}
 use mathlib.Core.Bool.{Bool, true, false, cond, not}
@@ -16,7 +16,7 @@ use Rattle.refusal.proofs.Outcomes.{clash, same-value}
 use Rattle.numbers.proofs.Bools.{no-both}
 use Rattle.instant.specs.Instant.{dayOf}
 use Rattle.instant.specs.Answers.{firstBad, firstFall, indexDaysAnswer, indexDays}
-use Rattle.instant.specs.Order.{AllInRange, FirstBadAt, FallsAt, FirstFallAt, NeverFalls}
+use Rattle.instant.specs.Order.{AllInRange, FirstBadAt, FirstFallAt, NeverFalls}
 use Rattle.instant.proofs.Lists.{bad-le, all-good, bad-first, bad-exactly, unequal, bad-found, fall-found, none-found, held}
 use Rattle.instant.proofs.Falls.{fall-le, fall-falls, fall-first, fall-exactly, never-falls}
 use Rattle.instant.proofs.Laws.{later-day}

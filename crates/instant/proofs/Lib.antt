@@ -3,6 +3,7 @@ pub mod Times
 pub mod Joined
 pub mod Lists
 pub mod Falls
+pub mod Faults
 pub mod Laws
 pub mod Blocks
 pub mod IndexLaws

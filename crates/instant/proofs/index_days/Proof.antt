@@ -1,6 +1,7 @@
 -- Each way out is decided by the tests that led there.
 use Rattle.instant.proofs.Lists.{bad-le, all-good, unequal, bad-found, fall-found, none-found, held}
-use Rattle.instant.proofs.Falls.{faultless, fault-falls, never-falls}
+use Rattle.instant.proofs.Falls.{never-falls}
+use Rattle.instant.proofs.Faults.{faultless, fault-falls}
 use Rattle.refusal.specs.Outcome.{refusedAt}
 use native.Mathlib.Omega.{arith}
 use lib.ListN.{length}

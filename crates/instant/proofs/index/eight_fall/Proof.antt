@@ -1,5 +1,5 @@
 -- The tests are those of the eight places, one behind the other.
-use Rattle.instant.proofs.Falls.{by-places}
+use Rattle.instant.proofs.Faults.{by-places}
 use mir.Facts.{toZ-ofZ}
 use mir.Val.{SFits}
 use mir.Syntax.{w64}

@@ -1,7 +1,8 @@
 -- What is left from `i` on goes on from the instant before it.
 use Rattle.instant.specs.Units.{lastInstant}
 use Rattle.instant.specs.Checked.{fallsFrom}
-use Rattle.instant.proofs.Falls.{compared, falls-here, falls-later, falls-end}
+use Rattle.instant.proofs.Falls.{compared}
+use Rattle.instant.proofs.Faults.{falls-here, falls-later, falls-end}
 use Rattle.numbers.proofs.Machine.{read}
 use mir.Facts.{toZ-ofZ}
 use mir.Val.{SFits, toZ}

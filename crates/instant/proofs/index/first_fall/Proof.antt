@@ -1,6 +1,6 @@
 -- The first fall is `earlier` and the first fall of what is left from there on.
 use Rattle.instant.specs.Answers.{firstFall}
-use Rattle.instant.proofs.Falls.{fall-end, fall-here, fall-later, both-compared}
+use Rattle.instant.proofs.Falls.{both-compared, fall-end, fall-here, fall-later}
 use mir.Val.{SFits}
 use mir.Syntax.{w64}
 use lib.IntN.{pos}

@@ -1,7 +1,7 @@
 -- What is left from `i` on goes on from the instant before it.
 use Rattle.instant.specs.Units.{lastInstant}
 use Rattle.instant.specs.Checked.{fallsFrom, faulty}
-use Rattle.instant.proofs.Falls.{falls-among, falls-behind}
+use Rattle.instant.proofs.Faults.{falls-among, falls-behind}
 use Rattle.instant.proofs.Blocks.{part-length}
 use mir.Facts.{toZ-ofZ}
 use mir.Val.{SFits, toZ}
