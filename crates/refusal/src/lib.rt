@@ -1,19 +1,19 @@
 // The numbered refusals of document 01, "The numbered refusals", those that document 02 adds, and the answer of a number or a refusal
 // that the crates share.
 //
-//     number(refusal)        its number, 1 to 15
+//     number(refusal)        its number, 1 to 16
 
 ghost use mathlib.Core.Path.{_≡_};
 ghost use Rattle.refusal.specs.Numbers.{refusalNumber};
 
 pub enum Refusal {
-    // 1: year outside the range of years
+    // 1: year outside the range of years, or week year outside its own
     YearOutOfRange,
     // 2: month outside 1..12
     MonthOutOfRange,
     // 3: day outside 1..length of that month
     DayOutOfRange,
-    // 4: day count, instant or shifted date outside the range
+    // 4: day count, instant, shifted date or week date outside the range
     OutOfRange,
     // 5: hour, minute, second or millisecond outside its limits
     TimeOutOfRange,
@@ -37,6 +37,8 @@ pub enum Refusal {
     ClockOutOfRange,
     // 15: index instant smaller than the one before it
     OutOfOrder,
+    // 16: week that its year does not have, or weekday outside 1..7
+    WeekOutOfRange,
 }
 
 pub enum NumberAnswer {
@@ -44,7 +46,7 @@ pub enum NumberAnswer {
     Refused(Refusal),
 }
 
-// The number of a refusal, 1 to 15.
+// The number of a refusal, 1 to 16.
 pub fn number(refusal: Refusal) -> u64
     ensures { λ r. ⌜ r ≡ refusalNumber refusal ⌝ }
 {
@@ -64,5 +66,6 @@ pub fn number(refusal: Refusal) -> u64
         Refusal::MalformedTiming => 13,
         Refusal::ClockOutOfRange => 14,
         Refusal::OutOfOrder => 15,
+        Refusal::WeekOutOfRange => 16,
     }
 }
