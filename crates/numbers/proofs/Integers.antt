@@ -90,7 +90,7 @@ not-below-trans z a b h k =
     ap (λ z. ltZ z b) e ∙ not-below b (m .0 + n .0)
 
 -- a sum keeps the order
-below : (a b : ℤ) → ltZ a b ≡ true → (n : ℕ) × (b ≡ a +ℤ pos (suc n))
+pub below : (a b : ℤ) → ltZ a b ≡ true → (n : ℕ) × (b ≡ a +ℤ pos (suc n))
 below (pos a) (pos b) h = let l = ltb-true a b h in (b - suc a, ap pos (omega arith))
 below (pos a) (negsuc b) h = no-both false h refl
 below (negsuc a) (pos b) h = (a + b, sym (sub-pos (suc (a + b)) (suc a) (omega arith) ∙ ap pos (omega arith)))
@@ -99,7 +99,7 @@ below (negsuc a) (negsuc b) h =
     let e : suc a - suc (suc (a - suc b)) ≡ b = omega arith in
     (a - suc b, sym (sub-neg (suc (a - suc b)) (suc a) (omega arith) ∙ ap negsuc e))
 
-is-below : (a : ℤ) (n : ℕ) → ltZ a (a +ℤ pos (suc n)) ≡ true
+pub is-below : (a : ℤ) (n : ℕ) → ltZ a (a +ℤ pos (suc n)) ≡ true
 is-below (pos a) n = lt-ltb a (a + suc n) (omega arith)
 is-below (negsuc a) n =
     on-sub (λ z. ltZ (negsuc a) z ≡ true) (suc n) (suc a) (λ l. lt-ltb (suc a - suc (suc n)) a (omega arith)) (λ l. refl)

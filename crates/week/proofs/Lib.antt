@@ -1,0 +1,11 @@
+pub mod Range
+pub mod Years
+pub mod Products
+pub mod Dates
+pub mod Weeks
+pub mod Search
+pub mod Answers
+pub mod Before
+pub mod Laws
+pub mod OrderLaws
+pub mod DayLaws

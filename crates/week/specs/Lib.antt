@@ -1,0 +1,7 @@
+-- What a reader has to believe: the answers, and what they are made of.
+pub mod Days
+pub mod Week
+pub mod Answers
+pub mod Order
+-- What only proofs and private contracts need.
+pub mod Closed
