@@ -71,10 +71,10 @@ module _ (count : ℕ) (few : 10 ^ count - 1 < 2 ^ 32) (z : ℤ) (h : HasRoom co
   pub room-cast : T (nonNeg (read z)) × Fits w32 (natAbs (read z))
   room-cast = cast-small (10 ^ count - 1) few z h
 
-  room-below : natAbs (read z) < 10 ^ count - 1 + 1
+  pub room-below : natAbs (read z) < 10 ^ count - 1 + 1
   room-below = read-below (10 ^ count - 1) few z h
 
-  room-abs : natAbs (read z) ≡ natAbs z
+  pub room-abs : natAbs (read z) ≡ natAbs z
   room-abs = abs-read (10 ^ count - 1) few z h
 
 module _ (f : Fields) (n : NarrowFields f) where

@@ -54,7 +54,7 @@ same-position z y label e f = same-value (sym (position-write-read z label e) �
 -- ---- instants
 
 -- the number of a field's digits is the field
-field-back : (count : ℕ) → (z : ℤ) → HasRoom count z → pos (number (digits (natAbs z) count)) ≡ z
+pub field-back : (count : ℕ) → (z : ℤ) → HasRoom count z → pos (number (digits (natAbs z) count)) ≡ z
 field-back count z e =
     let w = natural-within 0 (pos (10 ^ count - 1)) z e in
     let l = w .high in

@@ -30,5 +30,7 @@ pub mod CueCuts
 pub mod CueUsual
 pub mod ReadBack
 pub mod CueLaws
+pub mod WeekTexts
 pub mod Laws
+pub mod WeekLaws
 pub mod Capitals

@@ -1,8 +1,9 @@
--- The two tests of the code together find out whether two texts have their shapes.
-use Prim.Native.Nat.{ℕ, _+_, _<_, _^_}
+-- The test of the code finds out whether two texts have their shapes.
+use Prim.Native.Nat.{ℕ, _+_, _%_, _<_, _^_}
 use mathlib.Core.Path.{_≡_, refl, sym, ap, ap₂, _∙_, subst}
 use mathlib.Core.Bool.{Bool, true, false, cond, _&&_}
 use mathlib.Core.List.{List}
+use native.Mathlib.Nat.{mod-eq-of-lt}
 use native.Mathlib.Omega.{arith}
 use lib.Bits.{bitAnd, bitOr, bitXor}
 use lib.ListN.{length, length-map}
@@ -66,26 +67,35 @@ module _ (shape : List ℕ) (m : ℕ) (other : List ℕ) (n : ℕ) (v : OneWord 
       go true false e f = refl
       go false b e f = refl
 
-  pub high-byte : (bitOr (bitAnd m highest) (bitAnd n highest) ≡ 0 → ⊥) → Malformed ≡ readValues shape m other n
-  high-byte never = unless (λ f g. never (ap₂ bitOr (clear-bytes shape m v f) (clear-bytes other n w g)))
+  -- the code has made the numbers of the shapes and of their rooms, and the sums, which may have wrapped
+  module _ {a b x y s t : ℕ} (ea : a ≡ word shape) (eb : b ≡ word other) (ex : x ≡ word (rooms shape)) (ey : y ≡ word (rooms other))
+      (es : s ≡ (bitXor m a + x) % 2 ^ 64) (et : t ≡ (bitXor n b + y) % 2 ^ 64) where
+    -- they have not where no byte has its highest bit
+    first-sum : bitAnd m highest ≡ 0 → s ≡ sum shape m v
+    first-sum e = es ∙ mod-eq-of-lt (sum-small shape m v ea ex e) ∙ ap₂ (λ a x. bitXor m a + x) ea ex
 
-  -- the code has made the numbers of the shapes and of their rooms
-  module _ {a b x y : ℕ} (ea : a ≡ word shape) (eb : b ≡ word other) (ex : x ≡ word (rooms shape)) (ey : y ≡ word (rooms other)) where
-    abbrev both-sums : ℕ
-    both-sums = bitOr (bitAnd (bitXor m a + x) highest) (bitAnd (bitXor n b + y) highest)
+    second-sum : bitAnd n highest ≡ 0 → t ≡ sum other n w
+    second-sum e = et ∙ mod-eq-of-lt (sum-small other n w eb ey e) ∙ ap₂ (λ b y. bitXor n b + y) eb ey
 
-    sums-are : both-sums ≡ bitOr (bitAnd (sum shape m v) highest) (bitAnd (sum other n w) highest)
-    sums-are = λ i. bitOr (bitAnd (bitXor m (ea i) + ex i) highest) (bitAnd (bitXor n (eb i) + ey i) highest)
+    abbrev tested : ℕ
+    tested = bitOr (bitOr (bitOr (bitAnd m highest) (bitAnd n highest)) (bitAnd s highest)) (bitAnd t highest)
 
-    pub no-room : (both-sums ≡ 0 → ⊥) → Malformed ≡ readValues shape m other n
-    no-room never = unless (λ f g. never (sums-are ∙ ap₂ bitOr (clear-sum shape m v f) (clear-sum other n w g)))
+    pub one-is-wrong : (tested ≡ 0 → ⊥) → Malformed ≡ readValues shape m other n
+    one-is-wrong never =
+        unless (λ f g.
+        let p = clear-bytes shape m v f in
+        let q = clear-bytes other n w g in
+        let c = ap (λ s. bitAnd s highest) (first-sum p) ∙ clear-sum shape m v f in
+        let d = ap (λ t. bitAnd t highest) (second-sum q) ∙ clear-sum other n w g in
+        never (λ i. bitOr (bitOr (bitOr (p i) (q i)) (c i)) (d i)))
 
-    pub all-right : bitOr (bitAnd m highest) (bitAnd n highest) ≡ 0 → both-sums ≡ 0 → Read (bitXor m a) (bitXor n b) ≡ readValues shape m other n
-    all-right e s =
-        let c = or-none (bitAnd m highest) (bitAnd n highest) e in
-        let d = or-none (bitAnd (sum shape m v) highest) (bitAnd (sum other n w) highest) (sym sums-are ∙ s) in
-        let f = fits-if shape m v (c .0) (d .0) in
-        let g = fits-if other n w (c .1) (d .1) in
+    pub both-are-right : tested ≡ 0 → Read (bitXor m a) (bitXor n b) ≡ readValues shape m other n
+    both-are-right e =
+        let d = or-none (bitOr (bitOr (bitAnd m highest) (bitAnd n highest)) (bitAnd s highest)) (bitAnd t highest) e in
+        let c = or-none (bitOr (bitAnd m highest) (bitAnd n highest)) (bitAnd s highest) (d .0) in
+        let k = or-none (bitAnd m highest) (bitAnd n highest) (c .0) in
+        let f = fits-if shape m v (k .0) (ap (λ s. bitAnd s highest) (sym (first-sum (k .0))) ∙ c .1) in
+        let g = fits-if other n w (k .1) (ap (λ t. bitAnd t highest) (sym (second-sum (k .1))) ∙ d .1) in
         ap₂ (λ a b. Read (bitXor m a) (bitXor n b)) ea eb
         ∙ ap₂ Read (value-is shape m v f) (value-is other n w g)
         ∙ sym (ap (λ t. cond t (Read (word (above shape (textOf shape m))) (word (above other (textOf other n)))) Malformed) (ap₂ _&&_ f g))

@@ -13,8 +13,8 @@ abbrev pub Writes : Outcome (List ℕ) → (before after : List ℕ) → Outcome
 Writes o before after r = (r ≡ bytesWritten o before) × (after ≡ writtenBuffer o before)
 
 pub renamed :
-    (before : List ℕ) {label after : List ℕ} {o : Outcome (List ℕ)} {r : Outcome ℕ} → value label ≡ o →
-    Writes (value label) before after r → Writes o before after r
+    (before : List ℕ) {after : List ℕ} {label o : Outcome (List ℕ)} {r : Outcome ℕ} → label ≡ o →
+    Writes label before after r → Writes o before after r
 renamed before {after = after} {r = r} e = subst (λ o. Writes o before after r) e
 
 -- a refusal of the label, a buffer that is too short for it, and one that is not

@@ -2,6 +2,8 @@
 pub mod Digits
 pub mod Clock
 pub mod Rfc3339
+pub mod Years
+pub mod IsoWeek
 pub mod Capitals
 pub mod Webvtt
 pub mod Written

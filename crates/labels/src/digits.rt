@@ -10,7 +10,9 @@ ghost use Rattle.labels.specs.Words.{word, partOf, roomOne, rooms, OneWo
 // The byte of the digit 0.
 pub const ZERO: u32 = 48;
 
-// The marks that both labels have.
+// The marks that more than one label has.
+pub const DASH: u8 = b'-';
+
 pub const COLON: u8 = b':';
 
 pub const POINT: u8 = b'.';
@@ -24,6 +26,17 @@ pub fn four(n: u32) -> u64
     let pairs = n % 100 * 0x1_0000 + n / 100;
     let tens = pairs * 103 / 1024 & 0xf_000f;
     (256 * pairs - 2559 * tens + 0x3030_3030) as u64
+}
+
+// A number of four digits, two marks, and a number of two digits.
+pub fn four_and_pair(n: u32, first: u8, second: u8, m: u32) -> u64
+    requires { ⌜ (n < 10000) × (m < 100) ⌝ }
+    ensures { λ r. ⌜ r ≡ word (digits n 4 ++ first ∷ second ∷ digits m 2) ⌝ }
+{
+    let pairs = m as u64 * 0x1_0000_0000_0000 + (n % 100 * 0x1_0000 + n / 100) as u64;
+    let tens = pairs * 103 / 1024 & 0xf_0000_000f_000f;
+    let marks = second as u64 * 0x100_0000_0000 + first as u64 * 0x1_0000_0000;
+    256 * pairs - 2559 * tens + (marks + 0x3030_0000_3030_3030)
 }
 
 // Three numbers of two digits, with a mark after the first and the second.
@@ -51,13 +64,17 @@ pub fn read_values(first: u64, shape: &[u8], second: u64, other: &[u8]) -> Value
     requires { ⌜ OneWord (now shape) first × OneWord (now other) second ⌝ }
     ensures { λ r. ⌜ r ≡ readValues (now (shape .entry)) first (now (other .entry)) second ⌝ }
 {
-    if first & HIGHEST_BITS | second & HIGHEST_BITS != 0 {
-        return Values::Malformed;
-    }
     let v = first ^ word_of(shape);
     let w = second ^ word_of(other);
-    // A byte of a wrong text is raised to 128 or more.
-    if v + room_of(shape) & HIGHEST_BITS | w + room_of(other) & HIGHEST_BITS != 0 {
+    let raised = std::num::wrapping_add_u64(v, room_of(shape));
+    let other_raised = std::num::wrapping_add_u64(w, room_of(other));
+    // A byte of a wrong text is 128 or more, or is raised to it; where no byte is, no sum wraps.
+    if first & HIGHEST_BITS
+        | second & HIGHEST_BITS
+        | raised & HIGHEST_BITS
+        | other_raised & HIGHEST_BITS
+        != 0
+    {
         return Values::Malformed;
     }
     Values::Read(v, w)

@@ -6,8 +6,10 @@ use crate::clock;
 use crate::date;
 use crate::digits;
 use crate::digits::COLON;
+use crate::digits::DASH;
 use crate::digits::POINT;
 use crate::digits::Values;
+use crate::malformed;
 use instant::Fields;
 use instant::FieldsAnswer;
 use instant::units::PER_DAY;
@@ -17,7 +19,7 @@ ghost use mathlib.Core.Path.{_≡_};
 ghost use mathlib.Core.Bool.{true};
 ghost use Prim.Native.Nat.{_+_, _*_, _^_, _≤_, _<_};
 ghost use lib.ListN.{length};
-ghost use Rattle.refusal.specs.Outcome.{value, refused, numberOutcome};
+ghost use Rattle.refusal.specs.Outcome.{value, numberOutcome};
 ghost use Rattle.labels.specs.Written.{writeOutcome, bytesWritten, writtenBuffer};
 ghost use Rattle.labels.specs.Filled.{filled};
 ghost use Rattle.labels.specs.Rfc3339.{labelLength, decimals, numbersText, labelText, instantLabel, readAnswer};
@@ -25,9 +27,7 @@ ghost use Rattle.labels.specs.Digits.{hasSmall, fitsOne};
 ghost use Rattle.labels.specs.Words.{ClockValues, Thousandths};
 ghost use Rattle.labels.specs.Parts.{Narrow, NarrowFields, DateDigits, readTime, joinedValues};
 
-// The marks, beside colon and point. The letters are written as capitals and read as either; a small one is 32 more.
-const DASH: u8 = b'-';
-
+// The letters, which are written as capitals and read as either; a small one is 32 more.
 const T: u8 = b'T';
 
 const Z: u8 = b'Z';
@@ -179,10 +179,4 @@ fn join(century: u64, year: u64, month: u64, day: u64, clock: u64, fraction: u64
         },
         NumberAnswer::Refused(of_date) => NumberAnswer::Refused(of_date),
     }
-}
-
-fn malformed() -> NumberAnswer
-    ensures { λ r. ⌜ numberOutcome r ≡ refused 8 ⌝ }
-{
-    NumberAnswer::Refused(Refusal::MalformedLabel)
 }

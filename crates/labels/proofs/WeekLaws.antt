@@ -1,0 +1,151 @@
+-- Week labels: both round trips, their length, and the reader's refusals.
+use Prim.Native.Nat.{ℕ, _+_, _≤_, _<_, _^_}
+use mathlib.Core.Path.{_≡_, refl, sym, ap, _∙_, subst}
+use mathlib.Core.Logic.{_↔_, _⊎_, ⊎-elim}
+use mathlib.Core.Bool.{Bool, true, false, cond}
+use mathlib.Core.List.{List, [], _∷_, _++_}
+use native.Mathlib.Omega.{arith}
+use lib.IntN.{ℤ, pos, natAbs}
+use lib.ListN.{length, drop}
+use Rattle.refusal.specs.Outcome.{Outcome, value, refused, refusedAt, andThen}
+use Rattle.refusal.proofs.Outcomes.{clash, passes, same-value}
+use Rattle.numbers.specs.Range.{outside}
+use Rattle.numbers.proofs.Integers.{outside-no, not-outside, not-below-trans}
+use Rattle.numbers.proofs.Between.{inside-pos}
+use Rattle.week.specs.declared.WeekDate.{WeekDate}
+use Rattle.week.specs.Week.{weekDate}
+use Rattle.week.specs.Answers.{firstWeekYear, lastWeekYear, weekAnswer, weekDaysAnswer}
+use Rattle.week.proofs.Laws.{days-of-week, week-of-days, week-refusal}
+use Rattle.labels.specs.Digits.{digits, number, numberAt, fits}
+use Rattle.labels.specs.Rfc3339.{dash}
+use Rattle.labels.specs.Years.{firstLabelYear, lastLabelYear}
+use Rattle.labels.specs.IsoWeek.{letterW, weekLength, weekText, weekDateLabel, weekLabel, weekShape, readNumbers, readWeekAnswer}
+use Rattle.labels.proofs.Decimal.{number-below}
+use Rattle.labels.proofs.Shapes.{fits-both, digits-fit, digits-front, mark-front, fits-nothing}
+use Rattle.labels.proofs.Laws.{field-back}
+use Rattle.labels.proofs.WeekTexts.{week-room}
+
+-- every week label has weekLength bytes, and these are 10
+pub week-label-length : (year week weekday : ℕ) → length (weekText year week weekday) ≡ weekLength
+unfolding weekText
+week-label-length year week weekday = refl
+
+pub week-label-bytes : weekLength ≡ 10
+week-label-bytes = refl
+
+-- a written text has the shape
+text-fits : (year week weekday : ℕ) → fits weekShape (weekText year week weekday) ≡ true
+unfolding weekText
+text-fits year week weekday =
+    fits-both (digits 0 4) (dash ∷ letterW ∷ digits 0 2 ++ dash ∷ digits 0 1) (digits year 4) (dash ∷ letterW ∷ digits week 2 ++ dash ∷ digits weekday 1) (digits-fit year 4)
+    (fits-both (digits 0 2) (dash ∷ digits 0 1) (digits week 2) (dash ∷ digits weekday 1) (digits-fit week 2) (digits-fit weekday 1))
+
+-- the numbers of a written text
+numbers-back : (days : ℤ) (d : WeekDate) → value d ≡ weekAnswer days → outside firstLabelYear lastLabelYear (d .year) ≡ false →
+    let label = weekText (natAbs (d .year)) (natAbs (d .week)) (natAbs (d .weekday)) in
+    readNumbers label ≡ weekDaysAnswer (d .year) (d .week) (d .weekday)
+unfolding weekText
+numbers-back days d e h =
+    let r = week-room days d e in
+    let y = field-back 4 (d .year) h in
+    let w = field-back 2 (d .week) (r .0) in
+    let k = field-back 1 (d .weekday) (r .1) in
+    λ i. weekDaysAnswer (y i) (w i) (k i)
+
+-- writing then reading gives the day back
+pub write-read-week : (days : ℤ) (label : List ℕ) → weekLabel days ≡ value label → readWeekAnswer label ≡ value days
+unfolding weekLabel readWeekAnswer
+write-read-week days label e = go (weekAnswer days) refl e
+  where
+    go : (o : Outcome WeekDate) → weekAnswer days ≡ o → andThen o weekDateLabel ≡ value label →
+        cond (fits weekShape label) (readNumbers label) (refused 8) ≡ value days
+    go (value d) s e =
+        let p = passes (outside firstLabelYear lastLabelYear (d .year)) 1 _ (sym e) in
+        let l = same-value (p .1) in
+        subst (λ label. cond (fits weekShape label) (readNumbers label) (refused 8) ≡ value days) (sym l)
+        (ap (λ t. cond t (readNumbers (weekText (natAbs (d .year)) (natAbs (d .week)) (natAbs (d .weekday)))) (refused 8)) (text-fits (natAbs (d .year)) (natAbs (d .week)) (natAbs (d .weekday)))
+        ∙ numbers-back days d (sym s) (p .0) ∙ days-of-week days d s)
+    go (refused n) s e = clash (cc)
+    go (refusedAt n place) s e = clash (cc)
+
+-- a text of the shape is the text of its numbers
+text-back : (label : List ℕ) → fits weekShape label ≡ true → label ≡ weekText (numberAt 0 4 label) (numberAt 6 2 label) (numberAt 9 1 label)
+unfolding weekText
+text-back label h =
+    let a = digits-front label 0 (dash ∷ letterW ∷ digits 0 2 ++ dash ∷ digits 0 1) 4 h in
+    let b = mark-front label 4 (letterW ∷ digits 0 2 ++ dash ∷ digits 0 1) dash refl refl (a .1) in
+    let c = mark-front label 5 (digits 0 2 ++ dash ∷ digits 0 1) letterW refl refl (b .1) in
+    let d = digits-front label 6 (dash ∷ digits 0 1) 2 (c .1) in
+    let e = mark-front label 8 (digits 0 1) dash refl refl (d .1) in
+    let f = digits-front label 9 [] 1 (e .1) in
+    let g = fits-nothing (drop 10 label) (f .1) in
+    a .0
+    ∙ ap (λ l. digits (numberAt 0 4 label) 4 ++ l)
+    (b .0 ∙ ap (λ l. dash ∷ l)
+    (c .0 ∙ ap (λ l. letterW ∷ l)
+    (d .0 ∙ ap (λ l. digits (numberAt 6 2 label) 2 ++ l)
+    (e .0 ∙ ap (λ l. dash ∷ l) (f .0 ∙ ap (λ l. digits (numberAt 9 1 label) 1 ++ l) g)))))
+
+-- four digits are a year that has a label
+year-inside : (label : List ℕ) → fits weekShape label ≡ true → outside firstLabelYear lastLabelYear (pos (numberAt 0 4 label)) ≡ false
+unfolding weekText
+year-inside label h =
+    inside-pos 0 9999 (numberAt 0 4 label) (omega arith) (omega (arith, number-below (numberAt 0 4 label) 4, ap (numberAt 0 4) (text-back label h)))
+
+-- an accepted label has the shape, and its numbers make the day
+accepted : (label : List ℕ) (days : ℤ) → readWeekAnswer label ≡ value days →
+    (fits weekShape label ≡ true) × (readNumbers label ≡ value days)
+unfolding readWeekAnswer
+accepted label days = go (fits weekShape label)
+  where
+    go : (t : Bool) → cond t (readNumbers label) (refused 8) ≡ value days →
+        (t ≡ true) × (readNumbers label ≡ value days)
+    go true e = (refl, e)
+    go false e = clash (cc)
+
+-- reading an accepted label then writing gives the same bytes
+pub read-write-week : (label : List ℕ) (days : ℤ) → readWeekAnswer label ≡ value days → weekLabel days ≡ value label
+unfolding weekLabel
+read-write-week label days e =
+    let a = accepted label days e in
+    ap (λ o. andThen o weekDateLabel) (week-of-days (pos (numberAt 0 4 label)) (pos (numberAt 6 2 label)) (pos (numberAt 9 1 label)) days (a .1))
+    ∙ ap (λ t. cond t (refused 1) (value (weekText (numberAt 0 4 label) (numberAt 6 2 label) (numberAt 9 1 label)))) (year-inside label (a .0))
+    ∙ ap value (sym (text-back label (a .0)))
+
+-- ---- the reader's refusals
+
+-- the years of labels are week years: reading never refuses with 1
+week-year : (label : List ℕ) → fits weekShape label ≡ true → outside firstWeekYear lastWeekYear (pos (numberAt 0 4 label)) ≡ false
+week-year label h =
+    let t = outside-no firstLabelYear lastLabelYear (pos (numberAt 0 4 label)) (year-inside label h) in
+    not-outside firstWeekYear lastWeekYear (pos (numberAt 0 4 label)) (not-below-trans (pos (numberAt 0 4 label)) firstLabelYear firstWeekYear (t .0) refl) (t .1)
+
+numbers-refusal : (label : List ℕ) → fits weekShape label ≡ true → (n : ℕ) → readNumbers label ≡ refused n → (n ≡ 16) ⊎ (n ≡ 4)
+numbers-refusal label h n e = week-refusal (pos (numberAt 0 4 label)) (week-year label h) (pos (numberAt 6 2 label)) (pos (numberAt 9 1 label)) n e
+
+shaped : (label : List ℕ) (n : ℕ) → fits weekShape label ≡ true → readWeekAnswer label ≡ refused n → (n ≡ 16) ⊎ (n ≡ 4)
+unfolding readWeekAnswer
+shaped label n h e = numbers-refusal label h n (sym (ap (λ t. cond t (readNumbers label) (refused 8)) h) ∙ e)
+
+pub read-week-year : (label : List ℕ) → readWeekAnswer label ≡ refused 1 → ⊥
+unfolding readWeekAnswer
+read-week-year label e = go (fits weekShape label) refl
+  where
+    go : (t : Bool) → fits weekShape label ≡ t → ⊥
+    go true h = ⊎-elim (λ p. omega arith) (λ p. omega arith) (shaped label 1 h e)
+    go false h = clash-eight (sym (ap (λ t. cond t (readNumbers label) (refused 8)) h) ∙ e)
+      where
+        clash-eight : _≡_ {A = Outcome ℤ} (refused 8) (refused 1) → ⊥
+        clash-eight f = let z : _≡_ {A = ℕ} 8 1 = cc in omega arith
+
+-- reading refuses with 8 exactly if the label has another shape
+pub eight-exactly-week : (label : List ℕ) → (readWeekAnswer label ≡ refused 8) ↔ (fits weekShape label ≡ false)
+unfolding readWeekAnswer
+eight-exactly-week label = (
+  λ e. no-true (fits weekShape label) (λ h. ⊎-elim (λ p. omega arith) (λ p. omega arith) (shaped label 8 h e)),
+  λ h. ap (λ t. cond t (readNumbers label) (refused 8)) h,
+)
+  where
+    no-true : (t : Bool) → (t ≡ true → ⊥) → t ≡ false
+    no-true true none = absurd (none refl)
+    no-true false none = refl

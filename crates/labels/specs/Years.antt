@@ -1,0 +1,8 @@
+-- The years that a label's four digits tell.
+use lib.IntN.{ℤ, pos}
+
+abbrev pub firstLabelYear : ℤ
+firstLabelYear = pos 0
+
+abbrev pub lastLabelYear : ℤ
+lastLabelYear = pos 9999
