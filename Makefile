@@ -14,7 +14,7 @@ RATTLE := crates.txt $(shell find crates -name '*.rt' -o -name '*.antt')
 VERSION := $(subst $() ,.,$(strip $(shell sed -n 's/^.define OVENQUILL_VERSION_[A-Z]* //p' include/ovenquill.h)))
 
 .PHONY: all demo test bench install clean
-.PHONY: test-dates test-edits test-declarations test-c test-labels test-examples test-install test-rust test-readme
+.PHONY: test-dates test-edits test-declarations test-c test-labels test-weeks test-examples test-install test-rust test-readme
 
 all: $(LIB) $(EXAMPLES)
 
@@ -31,7 +31,7 @@ demo: $(EXAMPLES)
 	printf '%s\n' 1683729000000 -1 0 951782400000 -2208988800000 | build/player
 	build/check_claim 1 0 10 26 0 8 0 69
 
-test: test-dates test-edits test-declarations test-c test-labels test-examples test-install test-rust test-readme
+test: test-dates test-edits test-declarations test-c test-labels test-weeks test-examples test-install test-rust test-readme
 
 # The expected output of the program `dates` is what an independent program prints today.
 test-dates:
@@ -56,6 +56,10 @@ test-c: $(LIB)
 # The reader of instant labels against one in Python.
 test-labels: $(LIB)
 	tests/test_labels.py $(LIB)
+
+# Every week date against Python's.
+test-weeks: $(LIB)
+	tests/test_weeks.py $(LIB)
 
 test-examples: $(EXAMPLES)
 	tests/examples/run build
@@ -102,7 +106,7 @@ install: $(LIB)
 	install -m 644 $(LIB) '$(DESTDIR)$(PREFIX)/lib/'
 	install -m 644 include/ovenquill.h '$(DESTDIR)$(PREFIX)/include/'
 	printf '%s\n' 'prefix=$(PREFIX)' '' 'Name: ovenquill' \
-	  'Description: The Gregorian calendar, labels of instants and positions, cue lines, a checker of constants, and a follower of the transport clock, proved right' \
+	  'Description: The Gregorian calendar, week dates, labels of instants, week dates and positions, cue lines, a checker of constants, and a follower of the transport clock, proved right' \
 	  'Version: $(VERSION)' 'Libs: -L$${prefix}/lib -lovenquill' 'Cflags: -I$${prefix}/include' \
 	  > '$(DESTDIR)$(PREFIX)/lib/pkgconfig/ovenquill.pc'
 

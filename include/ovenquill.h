@@ -1,6 +1,7 @@
 /*
- * Ovenquill: the proleptic Gregorian calendar, labels of instants and of positions (WebVTT timestamps), cue lines, a checker
- * of multiply-and-shift constants, and a follower of the 33-bit transport clock, proved right.
+ * Ovenquill: the proleptic Gregorian calendar, ISO 8601 week dates, labels of instants, of week dates and of positions (WebVTT
+ * timestamps), cue lines, a checker of multiply-and-shift constants, and a follower of the 33-bit transport clock, proved
+ * right.
  *
  * For C99, C++11 and later ones. Link with libovenquill.a; after `make install`, `pkg-config --cflags --libs ovenquill` says
  * how.
@@ -37,7 +38,7 @@ extern "C" {
 
 /* The version of this header, in numbers and as a string. */
 #define OVENQUILL_VERSION_MAJOR 0
-#define OVENQUILL_VERSION_MINOR 6
+#define OVENQUILL_VERSION_MINOR 7
 #define OVENQUILL_VERSION_PATCH 0
 #define OVENQUILL_VERSION OVENQUILL_DOTTED_(OVENQUILL_VERSION_MAJOR, OVENQUILL_VERSION_MINOR, OVENQUILL_VERSION_PATCH)
 #define OVENQUILL_DOTTED_(major, minor, patch) OVENQUILL_STRING_(major.minor.patch)
@@ -53,6 +54,19 @@ extern "C" {
 #define OVENQUILL_LAST_YEAR_ 9999
 #define OVENQUILL_FIRST_YEAR OVENQUILL_NUMBER_(OVENQUILL_FIRST_YEAR_)
 #define OVENQUILL_LAST_YEAR OVENQUILL_NUMBER_(OVENQUILL_LAST_YEAR_)
+
+/*
+ * Week years, of ISO 8601 week dates: the first days of the calendar lie in a week of the year before it. And the week years
+ * that a label's four digits can tell.
+ */
+#define OVENQUILL_FIRST_WEEK_YEAR_ -1
+#define OVENQUILL_LAST_WEEK_YEAR_ 9999
+#define OVENQUILL_FIRST_LABEL_YEAR_ 0
+#define OVENQUILL_LAST_LABEL_YEAR_ 9999
+#define OVENQUILL_FIRST_WEEK_YEAR (OVENQUILL_FIRST_YEAR - 1)
+#define OVENQUILL_LAST_WEEK_YEAR OVENQUILL_NUMBER_(OVENQUILL_LAST_WEEK_YEAR_)
+#define OVENQUILL_FIRST_LABEL_YEAR OVENQUILL_NUMBER_(OVENQUILL_FIRST_LABEL_YEAR_)
+#define OVENQUILL_LAST_LABEL_YEAR OVENQUILL_NUMBER_(OVENQUILL_LAST_LABEL_YEAR_)
 
 /* Months, the first of them January; a month's days begin with 1, and ovenquill_last_day_of_month answers the last. */
 #define OVENQUILL_FIRST_MONTH_ 1
@@ -119,16 +133,17 @@ extern "C" {
 #define OVENQUILL_BOUND_MAX (OVENQUILL_END_MAX - 1)
 
 /*
- * The bytes of an instant label, and the fewest and the most of a position label that is written. No zero byte is written
- * after a label, and a call that reads one looks for none.
+ * The bytes of an instant label, of a week label, and the fewest and the most of a position label that is written. No zero byte
+ * is written after a label, and a call that reads one looks for none.
  */
 #define OVENQUILL_INSTANT_LABEL_BYTES 24
+#define OVENQUILL_WEEK_LABEL_BYTES 10
 #define OVENQUILL_POSITION_LABEL_MIN_BYTES 12
 #define OVENQUILL_POSITION_LABEL_MAX_BYTES 15
 
 /*
- * Weekdays, what ovenquill_weekday answers: 1 Monday to 7 Sunday, as ISO 8601 numbers them. A table that is indexed by them has
- * eight elements. They are not those of tm_wday in <time.h>, which are these modulo 7.
+ * Weekdays, what ovenquill_weekday answers and week dates have: 1 Monday to 7 Sunday, as ISO 8601 numbers them. A table that
+ * is indexed by them has eight elements. They are not those of tm_wday in <time.h>, which are these modulo 7.
  */
 #define OVENQUILL_MONDAY 1
 #define OVENQUILL_TUESDAY 2
@@ -154,19 +169,23 @@ extern "C" {
 #define OVENQUILL_MALFORMED_TIMING (-13)
 #define OVENQUILL_CLOCK_OUT_OF_RANGE (-14)
 #define OVENQUILL_OUT_OF_ORDER (-15)
+#define OVENQUILL_WEEK_OUT_OF_RANGE (-16)
 
 /* A refusal in words, by what a call answered. Any number may be handed in; the text is never null and is not to be freed. */
 static inline const char *ovenquill_refusal_text(int64_t answer)
 {
     switch (answer) {
     case OVENQUILL_YEAR_OUT_OF_RANGE:
-        return "year outside " OVENQUILL_RANGE_TEXT_(OVENQUILL_FIRST_YEAR_, OVENQUILL_LAST_YEAR_);
+        return "year outside " OVENQUILL_RANGE_TEXT_(OVENQUILL_FIRST_YEAR_, OVENQUILL_LAST_YEAR_)
+               ", or week year outside "
+               OVENQUILL_RANGE_TEXT_(OVENQUILL_FIRST_WEEK_YEAR_, OVENQUILL_LAST_WEEK_YEAR_) ", in a label "
+               OVENQUILL_RANGE_TEXT_(OVENQUILL_FIRST_LABEL_YEAR_, OVENQUILL_LAST_LABEL_YEAR_);
     case OVENQUILL_MONTH_OUT_OF_RANGE:
         return "month outside " OVENQUILL_RANGE_TEXT_(OVENQUILL_FIRST_MONTH_, OVENQUILL_LAST_MONTH_);
     case OVENQUILL_DAY_OUT_OF_RANGE:
         return "day outside 1..length of that month";
     case OVENQUILL_OUT_OF_RANGE:
-        return "day count, instant or shifted date outside the range";
+        return "day count, instant, shifted date or week date outside the range";
     case OVENQUILL_TIME_OUT_OF_RANGE:
         return "hour outside " OVENQUILL_RANGE_TEXT_(0, OVENQUILL_LAST_HOUR_)
                ", minute or second outside " OVENQUILL_RANGE_TEXT_(0, OVENQUILL_LAST_MINUTE_)
@@ -177,8 +196,9 @@ static inline const char *ovenquill_refusal_text(int64_t answer)
     case OVENQUILL_BUFFER_TOO_SHORT:
         return "buffer shorter than the label";
     case OVENQUILL_MALFORMED_LABEL:
-        return "label not " OVENQUILL_TEXT_(OVENQUILL_INSTANT_LABEL_BYTES)
-               " bytes, a non-digit where a digit stands, or a wrong mark (T and Z may be small)";
+        return "label not " OVENQUILL_TEXT_(OVENQUILL_INSTANT_LABEL_BYTES) " bytes, of a week date not "
+               OVENQUILL_TEXT_(OVENQUILL_WEEK_LABEL_BYTES)
+               ", a non-digit where a digit stands, or a wrong mark (T and Z may be small, W not)";
     case OVENQUILL_CONSTANT_OUT_OF_LIMITS:
         return "a constant, a search end or a claimed bound outside its limits";
     case OVENQUILL_DIFFERENCE_BELOW_BOUND:
@@ -195,6 +215,9 @@ static inline const char *ovenquill_refusal_text(int64_t answer)
                OVENQUILL_RANGE_TEXT_(OVENQUILL_FIRST_CLOCK_POSITION_, OVENQUILL_LAST_CLOCK_POSITION_);
     case OVENQUILL_OUT_OF_ORDER:
         return "index instant smaller than the one before it";
+    case OVENQUILL_WEEK_OUT_OF_RANGE:
+        return "week that its year does not have, or weekday outside "
+               OVENQUILL_RANGE_TEXT_(OVENQUILL_MONDAY, OVENQUILL_SUNDAY);
     default:
         return answer < 0 ? "unknown refusal" : "not refused";
     }
@@ -206,6 +229,16 @@ typedef struct ovenquill_date {
     int64_t month;
     int64_t day;
 } ovenquill_date;
+
+/*
+ * An ISO 8601 week date: the week year, which early in January and late in December may be another than the year of the date,
+ * the week 1 to 52 or 53, and the weekday OVENQUILL_MONDAY to OVENQUILL_SUNDAY.
+ */
+typedef struct ovenquill_week_date {
+    int64_t year;
+    int64_t week;
+    int64_t weekday;
+} ovenquill_week_date;
 
 /*
  * The date and the time of day of an instant: hour 0 to OVENQUILL_LAST_HOUR, minute 0 to OVENQUILL_LAST_MINUTE, second 0 to
@@ -306,6 +339,33 @@ int64_t ovenquill_day_of_year(int64_t year, int64_t month, int64_t day);
  */
 int64_t ovenquill_add_days(int64_t year, int64_t month, int64_t day, int64_t days, ovenquill_date *date);
 
+/*
+ * ISO 8601 week dates. A week runs from Monday to Sunday and belongs to the year in which its Thursday lies, the week year;
+ * week 1 is the one with that year's first Thursday, in which 4 January always lies. A week year has 52 or 53 weeks: one that
+ * has no week 53 refuses it. 2021-01-01, a Friday, is 2020-W53-5.
+ */
+
+/*
+ * The week date of a day count. Writes it to `week` and answers 0.
+ *
+ * Refusal, after which `week` is unchanged:
+ *   OVENQUILL_OUT_OF_RANGE   days outside OVENQUILL_FIRST_COUNT to OVENQUILL_LAST_COUNT
+ */
+int64_t ovenquill_week_from_days(int64_t days, ovenquill_week_date *week);
+
+/*
+ * The day count of a week date. Writes it to `days` and answers 0. Of the week year OVENQUILL_FIRST_WEEK_YEAR only the days
+ * from OVENQUILL_FIRST_COUNT on are in the range, and of the last week of OVENQUILL_LAST_WEEK_YEAR those up to
+ * OVENQUILL_LAST_COUNT.
+ *
+ * Refusals, after which `days` is unchanged:
+ *   OVENQUILL_YEAR_OUT_OF_RANGE   year outside OVENQUILL_FIRST_WEEK_YEAR to OVENQUILL_LAST_WEEK_YEAR
+ *   OVENQUILL_WEEK_OUT_OF_RANGE   week outside 1 to 52, or 53 in a year that has it, or weekday outside OVENQUILL_MONDAY to
+ *                                 OVENQUILL_SUNDAY
+ *   OVENQUILL_OUT_OF_RANGE        the day count outside OVENQUILL_FIRST_COUNT to OVENQUILL_LAST_COUNT
+ */
+int64_t ovenquill_days_from_week(int64_t year, int64_t week, int64_t weekday, int64_t *days);
+
 /* Instants. */
 
 /*
@@ -381,6 +441,32 @@ int64_t ovenquill_write_instant(int64_t instant, uint8_t *out, size_t length);
  *                                  OVENQUILL_LAST_SECOND
  */
 int64_t ovenquill_read_instant(const uint8_t *label, size_t length, int64_t *instant);
+
+/* Week labels: YYYY-Www-D, the form of ISO 8601, with the week year, a capital W, the week and the weekday. */
+
+/*
+ * Writes the week label of a day count to the front of `out`, and answers the bytes written, OVENQUILL_WEEK_LABEL_BYTES. The
+ * bytes after them are unchanged.
+ *
+ * Refusals, after which no byte of `out` is changed:
+ *   OVENQUILL_OUT_OF_RANGE        days outside OVENQUILL_FIRST_COUNT to OVENQUILL_LAST_COUNT
+ *   OVENQUILL_YEAR_OUT_OF_RANGE   week year outside OVENQUILL_FIRST_LABEL_YEAR to OVENQUILL_LAST_LABEL_YEAR, as that
+ *                                 of the calendar's first two days, which lie in the week year -1
+ *   OVENQUILL_BUFFER_TOO_SHORT    length below OVENQUILL_WEEK_LABEL_BYTES
+ */
+int64_t ovenquill_write_week(int64_t days, uint8_t *out, size_t length);
+
+/*
+ * Reads a week label. Writes its day count to `days` and answers 0. What it reads is what ovenquill_write_week writes for that
+ * count, byte for byte.
+ *
+ * Refusals, after which `days` is unchanged:
+ *   OVENQUILL_MALFORMED_LABEL     length other than OVENQUILL_WEEK_LABEL_BYTES, a byte that is no decimal digit where one must
+ *                                 stand, or a wrong mark, as a sign or a small w is
+ *   OVENQUILL_WEEK_OUT_OF_RANGE   week 00, or above 52, but for 53 in a year that has it; or weekday 0, 8 or 9
+ *   OVENQUILL_OUT_OF_RANGE        a day after OVENQUILL_LAST_COUNT
+ */
+int64_t ovenquill_read_week(const uint8_t *label, size_t length, int64_t *days);
 
 /*
  * Position labels: the timestamps of WebVTT. One that is written has hours, of at least two digits and with no other leading

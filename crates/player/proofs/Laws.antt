@@ -1,10 +1,10 @@
 -- What each call returns is 0 or more exactly if the call is done: a refusal is below zero, and no value is. A weekday is 1 to 7. The
 -- two numbers of a transport clock stand for the clock.
-use Prim.Native.Nat.{ℕ}
+use Prim.Native.Nat.{ℕ, zero, suc}
 use mathlib.Core.Path.{_≡_, refl, sym, ap, _∙_}
 use mathlib.Core.Bool.{Bool, true, false, cond, not, _||_}
 use mathlib.Core.List.{List, [], _∷_, _++_}
-use lib.IntN.{ℤ, pos, natAbs, negℤ}
+use lib.IntN.{ℤ, pos, natAbs, negℤ, _+ℤ_}
 use lib.Dec.{eqb, ltb}
 use lib.ListN.{length}
 use lib.Signed.{nonNeg, ltZ}
@@ -18,10 +18,15 @@ use Rattle.calendar.specs.Count.{weekday, dayOfYear}
 use Rattle.calendar.specs.Answers.{daysAnswer, civilAnswer, weekdayAnswer, leapAnswer, lastDayAnswer, dayOfYearAnswer, addDaysAnswer, ofDate}
 use Rattle.calendar.specs.declared.Date.{Date}
 use Rattle.calendar.proofs.Laws.{weekday-is-in-range, day-of-year-is-in-range}
+use Rattle.week.specs.Week.{weekDate, weekDateOf, sameWeekDate}
+use Rattle.week.specs.Answers.{weekAnswer, firstWeekYear, lastWeekYear, dayWith, lookFrom, lookThrough, weekDaysAnswer}
+use Rattle.week.specs.declared.WeekDate.{WeekDate}
 use Rattle.instant.specs.Answers.{badInstant, badTime, firstBad, firstFall, dayAnswer, splitAnswer, joinAnswer, indexDaysAnswer}
 use Rattle.labels.specs.Digits.{fits}
 use Rattle.labels.specs.Written.{bytesWritten}
 use Rattle.labels.specs.Rfc3339.{decimals, dateShape, timeShape, labelText, instantLabel, readAnswer}
+use Rattle.labels.specs.Years.{firstLabelYear, lastLabelYear}
+use Rattle.labels.specs.IsoWeek.{weekDateLabel, weekLabel, weekShape, readWeekAnswer}
 use Rattle.labels.specs.Webvtt.{lastPosition, positionLabel}
 use Rattle.labels.specs.Timestamps.{isTimestamp, positionOf, positionAnswer}
 use Rattle.labels.specs.CueLines.{Timing, between, of-none}
@@ -117,6 +122,22 @@ pub add-days-tells : (year month day days : ℤ) → Tells returnedDone (addDays
 unfolding addDaysAnswer
 add-days-tells year month day days = of-date _ year month day (civil-tells _)
 
+-- ---- week dates
+
+pub week-tells : (days : ℤ) → Tells returnedDone (weekAnswer days)
+unfolding weekAnswer
+week-tells days = guarded returnedDone (outside firstCount lastCount days) _ _ (told refl) (told refl)
+
+pub week-days-tell : (year week weekday : ℤ) → Tells returnedDone (weekDaysAnswer year week weekday)
+unfolding weekDaysAnswer dayWith
+week-days-tell year week weekday =
+    guarded returnedDone (outside firstWeekYear lastWeekYear year) _ _ (told refl) (searched (weekDate year week weekday) lookThrough lookFrom)
+  where
+    searched : (w : WeekDate) (n : ℕ) (z : ℤ) → Tells returnedDone (dayWith w n z)
+    searched w zero z = told refl
+    searched w (suc n) z =
+        guarded returnedDone (sameWeekDate (weekDateOf z) w) _ _ (guarded returnedDone (outside firstCount lastCount z) _ _ (told refl) (told refl)) (searched w n (z +ℤ pos 1))
+
 -- ---- instants
 
 pub day-tells : (instant : ℤ) → Tells returnedDone (dayAnswer instant)
@@ -160,6 +181,19 @@ map-tells f (refusedAt number place) t = told (t .exactly)
 pub write-instant-tells : (instant : ℤ) (buffer : List ℕ) → Tells returnedCount (bytesWritten (instantLabel instant) buffer)
 unfolding instantLabel
 write-instant-tells instant buffer = written-tells _ buffer (map-tells labelText (splitAnswer instant) (split-tells instant))
+
+pub write-week-tells : (days : ℤ) (buffer : List ℕ) → Tells returnedCount (bytesWritten (weekLabel days) buffer)
+unfolding weekLabel
+write-week-tells days buffer = written-tells _ buffer (go (weekAnswer days) (week-tells days))
+  where
+    go : (answer : Outcome WeekDate) → Tells returnedDone answer → Tells returnedDone (andThen answer weekDateLabel)
+    go (value d) t = guarded returnedDone (outside firstLabelYear lastLabelYear (d .year)) _ _ (told refl) (told refl)
+    go (refused number) t = told (t .exactly)
+    go (refusedAt number place) t = told (t .exactly)
+
+pub read-week-tells : (label : List ℕ) → Tells returnedDone (readWeekAnswer label)
+unfolding readWeekAnswer
+read-week-tells label = guarded returnedDone (fits weekShape label) _ _ (week-days-tell _ _ _) (told refl)
 
 pub write-position-tells : (position : ℤ) (buffer : List ℕ) → Tells returnedCount (bytesWritten (positionLabel position) buffer)
 unfolding positionLabel

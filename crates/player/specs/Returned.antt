@@ -12,6 +12,7 @@ use lib.Signed.{nonNeg}
 use Rattle.refusal.specs.Outcome.{Outcome, value, refused, refusedAt, mapValue, afterCall}
 use Rattle.numbers.specs.Range.{eqZ}
 use Rattle.calendar.specs.declared.Date.{Date}
+use Rattle.week.specs.declared.WeekDate.{WeekDate}
 use Rattle.instant.specs.declared.Fields.{Fields}
 use Rattle.labels.specs.declared.webvtt.Cue.{Cue}
 use Rattle.constants.specs.Least.{Found, at, none}
@@ -46,9 +47,12 @@ foundOr end none = end
 abbrev pub returnedFound : (end : ℤ) → Outcome Found → ℤ
 returnedFound end answer = returned (mapValue (foundOr end) answer)
 
--- a date, fields and a cue as the numbers of their place, in the order of the papers
+-- a date, a week date, fields and a cue as the numbers of their place, in the order of the papers
 abbrev pub dateNumbers : Date → List ℤ
 dateNumbers d = d .year ∷ d .month ∷ d .day ∷ []
+
+abbrev pub weekNumbers : WeekDate → List ℤ
+weekNumbers w = w .year ∷ w .week ∷ w .weekday ∷ []
 
 abbrev pub fieldsNumbers : Fields → List ℤ
 fieldsNumbers f = f .year ∷ f .month ∷ f .day ∷ f .hour ∷ f .minute ∷ f .second ∷ f .millisecond ∷ []

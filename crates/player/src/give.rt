@@ -11,6 +11,7 @@ use labels::WriteAnswer;
 use labels::webvtt::CueAnswer;
 use refusal::NumberAnswer;
 use refusal::Refusal;
+use week::WeekAnswer;
 ghost use Prim.Native.Nat.{ℕ, _<_, _^_};
 ghost use mathlib.Core.Path.{_≡_};
 ghost use lib.IntN.{pos, negℤ};
@@ -18,11 +19,12 @@ ghost use Rattle.refusal.specs.Numbers.{refusalNumber};
 ghost use Rattle.refusal.specs.Outcome.{value, refusedAt, numberOutcome, afterCall};
 ghost use Rattle.calendar.specs.Answers.{dateOutcome, flagOutcome};
 ghost use Rattle.instant.specs.Answers.{fieldsOutcome, indexOutcome};
+ghost use Rattle.week.specs.Answers.{weekOutcome};
 ghost use Rattle.labels.specs.Written.{writeOutcome};
 ghost use Rattle.labels.specs.Cues.{cueOutcome};
 ghost use Rattle.constants.specs.Least.{at};
 ghost use Rattle.constants.specs.Answers.{searchOutcome, claimOutcome};
-ghost use Rattle.player.specs.Returned.{returned, returnedCount, returnedFlag, returnedDone, returnedFound, dateNumbers, fieldsNumbers, cueNumbers, afterRefusal};
+ghost use Rattle.player.specs.Returned.{returned, returnedCount, returnedFlag, returnedDone, returnedFound, dateNumbers, weekNumbers, fieldsNumbers, cueNumbers, afterRefusal};
 
 pub fn returned_number(answer: NumberAnswer) -> i64
     ensures { λ r. ⌜ r ≡ returned (numberOutcome answer) ⌝ }
@@ -86,6 +88,19 @@ pub fn date(answer: DateAnswer, place: &mut [i64; 3]) -> i64
             0
         }
         DateAnswer::Refused(why) => negated(why),
+    }
+}
+
+pub fn week(answer: WeekAnswer, place: &mut [i64; 3]) -> i64
+    ensures answer { λ r. ⌜ r ≡ returnedDone (weekOutcome answer) ⌝ }
+    ensures place { λ r. ⌜ now (place .exit) ≡ afterCall (weekOutcome answer) weekNumbers (now (place .entry)) ⌝ }
+{
+    match answer {
+        WeekAnswer::Value(w) => {
+            *place = [w.year, w.week, w.weekday];
+            0
+        }
+        WeekAnswer::Refused(why) => negated(why),
     }
 }
 

@@ -8,12 +8,16 @@
 //     ovenquill_last_day_of_month(year, month)                                the month's length
 //     ovenquill_day_of_year(year, month, day)                                 1 to 366
 //     ovenquill_add_days(year, month, day, days, date)                        0, and year, month, day
+//     ovenquill_week_from_days(days, week)                                    0, and week year, week, weekday
+//     ovenquill_days_from_week(year, week, weekday, days)                     0, and the day count
 //     ovenquill_day_of_instant(instant, days)                                 0, and the day count
 //     ovenquill_split_instant(instant, fields)                                0, and year to millisecond
 //     ovenquill_join_instant(year, .., millisecond, instant)                  0, and the instant
 //     ovenquill_index_days(instants, days, place)                             the days written; a refusal 4 or 15 puts the place in `place`
 //     ovenquill_write_instant(instant, out)                                   the bytes written
 //     ovenquill_read_instant(label, instant)                                  0, and the instant
+//     ovenquill_write_week(days, out)                                         the bytes written
+//     ovenquill_read_week(label, days)                                        0, and the day count
 //     ovenquill_write_position(position, out)                                 the bytes written
 //     ovenquill_read_position(text)                                           the position
 //     ovenquill_read_cue(line, cue)                                           0, and start and end
@@ -26,15 +30,17 @@ ghost use mathlib.Core.Path.{_≡_};
 ghost use Rattle.refusal.specs.Outcome.{afterCall};
 ghost use Rattle.calendar.specs.Answers.{daysAnswer, civilAnswer, weekdayAnswer, leapAnswer, lastDayAnswer, dayOfYearAnswer, addDaysAnswer};
 ghost use Rattle.instant.specs.Answers.{dayAnswer, splitAnswer, joinAnswer, indexDaysAnswer, indexDays};
+ghost use Rattle.week.specs.Answers.{weekAnswer, weekDaysAnswer};
 ghost use Rattle.labels.specs.Written.{bytesWritten, writtenBuffer};
 ghost use Rattle.labels.specs.Rfc3339.{instantLabel, readAnswer};
+ghost use Rattle.labels.specs.IsoWeek.{weekLabel, readWeekAnswer};
 ghost use Rattle.labels.specs.Webvtt.{positionLabel};
 ghost use Rattle.labels.specs.Timestamps.{positionAnswer};
 ghost use Rattle.labels.specs.Cues.{cueLineAnswer};
 ghost use Rattle.constants.specs.Answers.{differenceAnswer, boundAnswer};
 ghost use Rattle.transport.specs.Answers.{followAnswer, followAllAnswer};
 ghost use lib.IntN.{pos};
-ghost use Rattle.player.specs.Returned.{returned, returnedCount, returnedFlag, returnedDone, returnedFound, returnedMilliseconds, dateNumbers, fieldsNumbers, cueNumbers, clockOf, clockAfterValue, clockAfterValues, afterRefusal};
+ghost use Rattle.player.specs.Returned.{returned, returnedCount, returnedFlag, returnedDone, returnedFound, returnedMilliseconds, dateNumbers, weekNumbers, fieldsNumbers, cueNumbers, clockOf, clockAfterValue, clockAfterValues, afterRefusal};
 
 mod clocks;
 mod give;
@@ -98,6 +104,27 @@ pub extern "C" fn ovenquill_add_days(
 }
 
 #[no_mangle]
+pub extern "C" fn ovenquill_week_from_days(days: i64, week: &mut [i64; 3]) -> i64
+    ensures answer { λ r. ⌜ r ≡ returnedDone (weekAnswer days) ⌝ }
+    ensures week { λ r. ⌜ now (week .exit) ≡ afterCall (weekAnswer days) weekNumbers (now (week .entry)) ⌝ }
+{
+    give::week(week::week_from_days(days), week)
+}
+
+#[no_mangle]
+pub extern "C" fn ovenquill_days_from_week(
+    year: i64,
+    week: i64,
+    weekday: i64,
+    days: &mut i64,
+) -> i64
+    ensures answer { λ r. ⌜ r ≡ returnedDone (weekDaysAnswer year week weekday) ⌝ }
+    ensures days { λ r. ⌜ now (days .exit) ≡ afterCall (weekDaysAnswer year week weekday) (λ n. n) (now (days .entry)) ⌝ }
+{
+    give::number(week::days_from_week(year, week, weekday), days)
+}
+
+#[no_mangle]
 pub extern "C" fn ovenquill_day_of_instant(instant: i64, days: &mut i64) -> i64
     ensures answer { λ r. ⌜ r ≡ returnedDone (dayAnswer instant) ⌝ }
     ensures days { λ r. ⌜ now (days .exit) ≡ afterCall (dayAnswer instant) (λ n. n) (now (days .entry)) ⌝ }
@@ -156,6 +183,22 @@ pub extern "C" fn ovenquill_read_instant(label: &[u8], instant: &mut i64) -> i64
     ensures instant { λ r. ⌜ now (instant .exit) ≡ afterCall (readAnswer (now (label .entry))) (λ n. n) (now (instant .entry)) ⌝ }
 {
     give::number(labels::rfc3339::read_instant(label), instant)
+}
+
+#[no_mangle]
+pub extern "C" fn ovenquill_write_week(days: i64, out: &mut [u8]) -> i64
+    ensures answer { λ r. ⌜ r ≡ returnedCount (bytesWritten (weekLabel days) (now (out .entry))) ⌝ }
+    ensures buffer { λ r. ⌜ now (out .exit) ≡ writtenBuffer (weekLabel days) (now (out .entry)) ⌝ }
+{
+    give::returned_bytes(labels::iso_week::write_week(days, out))
+}
+
+#[no_mangle]
+pub extern "C" fn ovenquill_read_week(label: &[u8], days: &mut i64) -> i64
+    ensures answer { λ r. ⌜ r ≡ returnedDone (readWeekAnswer (now (label .entry))) ⌝ }
+    ensures days { λ r. ⌜ now (days .exit) ≡ afterCall (readWeekAnswer (now (label .entry))) (λ n. n) (now (days .entry)) ⌝ }
+{
+    give::number(labels::iso_week::read_week(label), days)
 }
 
 #[no_mangle]
