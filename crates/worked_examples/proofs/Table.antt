@@ -1,12 +1,13 @@
 -- The starred rows of document 01, "Numbers to try", as one checked table of theorems about the definitions; then two labels of the
 -- other rows, and rows of document 02.
-use Prim.Native.Nat.{ℕ, _+_}
-use mathlib.Core.Path.{_≡_, refl, ap, _∙_}
+use Prim.Native.Nat.{ℕ, _+_, _≤_, _<_}
+use mathlib.Core.Path.{_≡_, refl, sym, ap, _∙_}
 use mathlib.Core.Bool.{false, cond}
 use mathlib.Core.List.{[], _∷_}
 use lib.Dec.{T, leb, lit≤}
-use lib.IntN.{ℤ, pos, negsuc}
-use Rattle.refusal.specs.Outcome.{value, refused, refusedAt}
+use native.Mathlib.Omega.{arith}
+use lib.IntN.{ℤ, pos, negsuc, natAbs, _+ℤ_}
+use Rattle.refusal.specs.Outcome.{value, refused, refusedAt, andThen}
 use Rattle.numbers.specs.Range.{outside, since}
 use Rattle.calendar.specs.Range.{firstCount, lastCount}
 use Rattle.calendar.specs.Gregorian.{dateOf}
@@ -14,13 +15,23 @@ use Rattle.calendar.specs.Count.{dateOfCount, weekday}
 use Rattle.calendar.specs.Answers.{civilAnswer, weekdayAnswer}
 use Rattle.calendar.specs.Closed.{cycle, baseYear, leapDay, leapℕ, leaps, start, monthDays, before, dayNumber, public}
 use Rattle.calendar.proofs.Laws.{date-at}
+use Rattle.week.specs.Week.{weekDate, weekDateOf}
+use Rattle.week.specs.Answers.{weekAnswer, weekDaysAnswer}
+use Rattle.week.specs.Closed.{baseCount, firstDay, firstWeek, weeks}
+use Rattle.week.specs.Closed as week
+use Rattle.week.proofs.Years.{thursdayAt}
+use Rattle.week.proofs.Weeks.{weekAt, week-date-at}
+use Rattle.week.proofs.Answers.{no-week}
+use Rattle.week.proofs.Laws.{day-is-answered, days-of-week}
 use Rattle.instant.specs.Instant.{dayOf, timeOf, fieldsOf, fieldsAt}
 use Rattle.instant.specs.Answers.{firstBad, firstFall, dayAnswer, splitAnswer, indexDaysAnswer}
 use Rattle.labels.specs.Rfc3339.{numbersText, labelText, instantLabel, readAnswer}
+use Rattle.labels.specs.IsoWeek.{weekText, weekDateLabel, weekLabel, readWeekAnswer}
 use Rattle.labels.specs.Webvtt.{positionLabel}
 use Rattle.labels.specs.Timestamps.{positionAnswer}
 use Rattle.labels.specs.Cues.{cueOf, cueLineAnswer}
 use Rattle.labels.proofs.Laws.{write-read}
+use Rattle.labels.proofs.WeekLaws.{write-read-week}
 use Rattle.labels.proofs.CueParts.{cue-line}
 use Rattle.constants.specs.Difference.{exactQuotient, deviceQuotient, differs}
 use Rattle.constants.specs.Least.{at, leastBelow}
@@ -221,3 +232,57 @@ fall-row = refl
 pub bad-instant-row : indexDaysAnswer (pos 1 ∷ pos 0 ∷ pos 253402300800000 ∷ []) (pos 7 ∷ pos 7 ∷ pos 7 ∷ []) ≡ refusedAt 4 2
 unfolding indexDaysAnswer firstBad firstFall
 bad-instant-row = refl
+
+-- ---- document 02, request Seven: 2023-05-10, 2020-12-31 and 2021-01-01; the first day of the range and the day before it; a week that
+-- the year -1 does not have; and a day after the last
+
+-- day z, whose week's Thursday lies in the year y, counted from the base of the week dates
+in-week :
+    (z : ℤ) (y : ℕ) → T (leb (firstDay y) (thursdayAt (since baseCount z))) → T (leb (thursdayAt (since baseCount z) + 1) (firstDay (y + 1))) →
+    baseCount +ℤ pos (since baseCount z) ≡ z → weekDateOf z ≡ weekAt (since baseCount z) y
+in-week z y low high e = ap weekDateOf (sym e) ∙ week-date-at (since baseCount z) y (record { low = lit≤ low; high = lt (lit≤ high) })
+  where
+    lt : {a b : ℕ} → a + 1 ≤ b → a < b
+    lt h = omega arith
+
+pub week-row : weekAnswer (pos 19487) ≡ value (weekDate (pos 2023) (pos 19) (pos 3))
+unfolding weekAnswer firstDay start leaps
+week-row = ap value (in-week (pos 19487) (since week.baseYear (pos 2023)) tt tt refl)
+
+pub week-53-row : weekAnswer (pos 18627) ≡ value (weekDate (pos 2020) (pos 53) (pos 4))
+unfolding weekAnswer firstDay start leaps
+week-53-row = ap value (in-week (pos 18627) (since week.baseYear (pos 2020)) tt tt refl)
+
+pub new-year-row : weekAnswer (pos 18628) ≡ value (weekDate (pos 2020) (pos 53) (pos 5))
+unfolding weekAnswer firstDay start leaps
+new-year-row = ap value (in-week (pos 18628) (since week.baseYear (pos 2020)) tt tt refl)
+
+pub first-day-row : weekAnswer (negsuc 719527) ≡ value (weekDate (negsuc 0) (pos 52) (pos 6))
+unfolding weekAnswer firstDay start leaps
+first-day-row = ap value (in-week (negsuc 719527) (since week.baseYear (negsuc 0)) tt tt refl)
+
+pub first-week-row : weekDaysAnswer (negsuc 0) (pos 52) (pos 6) ≡ value (negsuc 719527)
+first-week-row = days-of-week (negsuc 719527) (weekDate (negsuc 0) (pos 52) (pos 6)) first-day-row
+
+pub day-before-row : weekDaysAnswer (negsuc 0) (pos 52) (pos 5) ≡ refused 4
+unfolding firstDay start leaps
+day-before-row =
+    day-is-answered (negsuc 0) refl (pos 52) (pos 5) (record { day = negsuc 719528; has = in-week (negsuc 719528) (since week.baseYear (negsuc 0)) tt tt refl })
+
+pub no-week-row : weekDaysAnswer (negsuc 0) (pos 53) (pos 1) ≡ refused 16
+unfolding weeks firstWeek firstDay start leaps
+no-week-row =
+    no-week {y = since week.baseYear (negsuc 0)} refl refl (lit≤ tt) (lit≤ tt) (pos 53) (pos 1) (λ w d p q h. omega (arith, h .week-high, ap natAbs p))
+
+pub day-after-row : weekDaysAnswer (pos 9999) (pos 52) (pos 6) ≡ refused 4
+unfolding firstDay start leaps
+day-after-row =
+    day-is-answered (pos 9999) refl (pos 52) (pos 6) (record { day = pos 2932897; has = in-week (pos 2932897) (since week.baseYear (pos 9999)) tt tt refl })
+
+-- `2023-W19-3`
+pub week-label-row : weekLabel (pos 19487) ≡ value (50 ∷ 48 ∷ 50 ∷ 51 ∷ 45 ∷ 87 ∷ 49 ∷ 57 ∷ 45 ∷ 51 ∷ [])
+unfolding weekLabel weekText
+week-label-row = ap (λ o. andThen o weekDateLabel) week-row
+
+pub week-read-row : readWeekAnswer (50 ∷ 48 ∷ 50 ∷ 51 ∷ 45 ∷ 87 ∷ 49 ∷ 57 ∷ 45 ∷ 51 ∷ []) ≡ value (pos 19487)
+week-read-row = write-read-week (pos 19487) _ week-label-row

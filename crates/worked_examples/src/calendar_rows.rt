@@ -5,6 +5,7 @@ use super::show::flag_answer;
 use super::show::number;
 use super::show::number_answer;
 use super::show::text;
+use super::show::three_numbers;
 
 pub fn run() {
     days();
@@ -70,11 +71,7 @@ fn date(year: i64, month: i64, day: i64) {
 
 fn named(year: i64, month: i64, day: i64) {
     text(b"date ");
-    number(year);
-    text(b" ");
-    number(month);
-    text(b" ");
-    number(day);
+    three_numbers(year, month, day);
 }
 
 // Shifted dates: out of the range by one day, and by more than 64 bits can add.

@@ -7,6 +7,7 @@ use super::show::number_answer;
 use super::show::refused;
 use super::show::spaced_numbers;
 use super::show::text;
+use super::show::three_numbers;
 use instant::Fields;
 use instant::FieldsAnswer;
 use instant::IndexAnswer;
@@ -50,26 +51,18 @@ fn moment(instant: i64) {
 }
 
 fn show_fields(fields: Fields) {
-    numbers(fields.year, fields.month, fields.day);
+    three_numbers(fields.year, fields.month, fields.day);
     text(b" ");
-    numbers(fields.hour, fields.minute, fields.second);
+    three_numbers(fields.hour, fields.minute, fields.second);
     text(b" ");
     number(fields.millisecond);
 }
 
-fn numbers(a: i64, b: i64, c: i64) {
-    number(a);
-    text(b" ");
-    number(b);
-    text(b" ");
-    number(c);
-}
-
 fn joined(year: i64, month: i64, day: i64, hour: i64, minute: i64, second: i64, millisecond: i64) {
     text(b"fields ");
-    numbers(year, month, day);
+    three_numbers(year, month, day);
     text(b" ");
-    numbers(hour, minute, second);
+    three_numbers(hour, minute, second);
     text(b" ");
     number(millisecond);
     text(b": instant ");

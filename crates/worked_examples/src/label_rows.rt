@@ -36,9 +36,7 @@ fn written(instant: i64) {
     text(b": label ");
     let mut out = [b'?'; LENGTH];
     let answer = labels::rfc3339::write_instant(instant, &mut out);
-    written_answer(answer);
-    text(b" ");
-    text(&out);
+    written_answer(answer, &out);
     text(b"\n");
 }
 
@@ -57,9 +55,7 @@ fn position(position: i64) {
     text(b": ");
     let mut out = [b'?'; 16];
     let answer = labels::webvtt::write_position(position, &mut out);
-    written_answer(answer);
-    text(b" ");
-    text(&out);
+    written_answer(answer, &out);
     text(b"\n");
 }
 
@@ -69,8 +65,6 @@ fn short_position(position: i64) {
     text(b" in 13 bytes: ");
     let mut out = [b'?'; 13];
     let answer = labels::webvtt::write_position(position, &mut out);
-    written_answer(answer);
-    text(b" ");
-    text(&out);
+    written_answer(answer, &out);
     text(b"\n");
 }

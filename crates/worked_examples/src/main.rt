@@ -8,9 +8,11 @@ mod instant_rows;
 mod label_rows;
 mod show;
 mod timing_rows;
+mod week_rows;
 
 fn main() {
     calendar_rows::run();
+    week_rows::run();
     instant_rows::run();
     label_rows::run();
     timing_rows::run();

@@ -60,22 +60,28 @@ fn yes_or_no(flag: bool) {
     }
 }
 
+// Three numbers, with a blank between them.
+pub fn three_numbers(a: i64, b: i64, c: i64) {
+    number(a);
+    text(b" ");
+    number(b);
+    text(b" ");
+    number(c);
+}
+
 pub fn date_answer(answer: DateAnswer) {
     match answer {
-        DateAnswer::Value(date) => {
-            number(date.year);
-            text(b" ");
-            number(date.month);
-            text(b" ");
-            number(date.day);
-        }
+        DateAnswer::Value(date) => three_numbers(date.year, date.month, date.day),
         DateAnswer::Refused(r) => refused(r),
     }
 }
 
-pub fn written_answer(answer: WriteAnswer) {
+// What a writer answered, and what its buffer holds then.
+pub fn written_answer(answer: WriteAnswer, buffer: &[u8]) {
     match answer {
         WriteAnswer::Written(n) => natural(n as u64),
         WriteAnswer::Refused(r) => refused(r),
     }
+    text(b" ");
+    text(buffer);
 }

@@ -50,9 +50,7 @@ fn timestamp(label: &[u8]) {
 fn written_again(position: i64) {
     let mut out = [b'?'; 16];
     let answer = labels::webvtt::write_position(position, &mut out);
-    written_answer(answer);
-    text(b" ");
-    text(&out);
+    written_answer(answer, &out);
 }
 
 fn cue(line: &[u8]) {

@@ -1,0 +1,115 @@
+// Document 02, request Seven: week dates from counts and back, and their labels; both ends of the range, and what is refused.
+
+use super::show::number;
+use super::show::number_answer;
+use super::show::refused;
+use super::show::text;
+use super::show::three_numbers;
+use super::show::written_answer;
+use labels::iso_week::LENGTH;
+use week::WeekAnswer;
+
+pub fn run() {
+    dates();
+    days();
+    labels();
+}
+
+fn dates() {
+    date(19487);
+    date(18627);
+    date(18628);
+    date(-719528);
+    date(-719527);
+    date(-719526);
+    date(2932896);
+    date(-719529);
+    date(2932897);
+}
+
+fn date(days: i64) {
+    text(b"day ");
+    number(days);
+    text(b": week date ");
+    match week::week_from_days(days) {
+        WeekAnswer::Value(w) => three_numbers(w.year, w.week, w.weekday),
+        WeekAnswer::Refused(r) => refused(r),
+    }
+    text(b"\n");
+}
+
+fn days() {
+    day(-1, 52, 6);
+    day(-1, 52, 5);
+    day(-1, 53, 1);
+    day(-2, 1, 1);
+    day(10000, 1, 1);
+    day(9999, 52, 5);
+    day(9999, 52, 6);
+    day(9999, 52, 7);
+    day(2021, 53, 1);
+    day(2020, 53, 4);
+    day(2020, 0, 1);
+    day(2020, 1, 0);
+    day(2020, 1, 8);
+}
+
+fn day(year: i64, week: i64, weekday: i64) {
+    text(b"week date ");
+    three_numbers(year, week, weekday);
+    text(b": count ");
+    number_answer(week::days_from_week(year, week, weekday));
+    text(b"\n");
+}
+
+fn labels() {
+    written(19487);
+    written(18627);
+    written(18628);
+    written(-719528);
+    written(-719526);
+    written(-719529);
+    written(2932897);
+    short(19487);
+    read(b"2023-W19-3");
+    read(b"2020-W53-4");
+    read(b"2020-W53-5");
+    read(b"2023-w19-3");
+    read(b"2023-W00-1");
+    read(b"2023-W01-0");
+    read(b"2023-W01-8");
+    read(b"2023-W01-9");
+    read(b"-001-W52-6");
+    read(b"9999-W52-6");
+    read(b"0000-W01-1");
+    read(b"2023-W1-3");
+    read(b"10000-W01-1");
+}
+
+fn written(days: i64) {
+    text(b"day ");
+    number(days);
+    text(b": label ");
+    let mut out = [b'?'; LENGTH];
+    let answer = labels::iso_week::write_week(days, &mut out);
+    written_answer(answer, &out);
+    text(b"\n");
+}
+
+fn short(days: i64) {
+    text(b"day ");
+    number(days);
+    text(b" in 9 bytes: label ");
+    let mut out = [b'?'; 9];
+    let answer = labels::iso_week::write_week(days, &mut out);
+    written_answer(answer, &out);
+    text(b"\n");
+}
+
+fn read(label: &[u8]) {
+    text(b"label ");
+    text(label);
+    text(b": day ");
+    number_answer(labels::iso_week::read_week(label));
+    text(b"\n");
+}
