@@ -1,9 +1,10 @@
 /*
- * Document 01 and change requests One, Three, Four, Five and Six in plain C, written from their text and sharing nothing with
- * the library: years are counted one by one, labels go by snprintf, the reader of instants goes byte by byte, the readers
- * of timestamps and cue lines take one part after the other, the constants go by trying every n, and a step of the transport
- * clock by trying three. Each call here has the answer, and leaves in what it is lent the bytes, that the library's call of
- * the same name must have and leave: a date is three numbers, fields are seven, a cue and a clock are two.
+ * Document 01 and change requests One, Three, Four, Five, Six and Seven in plain C, written from their text and sharing nothing
+ * with the library: years are counted one by one, weeks by their Thursdays, the day of a week date is searched for, labels go by
+ * snprintf, the readers of instants and week dates go byte by byte, those of timestamps and cue lines take one part after the
+ * other, the constants go by trying every n, and a step of the transport clock by trying three. Each call here has the answer, and
+ * leaves in what it is lent the bytes, that the library's call of the same name must have and leave: a date and a week date are
+ * three numbers, fields are seven, a cue and a clock are two.
  */
 #ifndef PLAIN_H
 #define PLAIN_H
@@ -44,7 +45,7 @@ static const struct constants paper_most = {1023, 1023, 1048575, 4294967295LL, 4
 
 #define PAPER_END_MAX 4294967295LL
 #define PAPER_BOUND_MAX 4294967294LL
-#define PAPER_LAST_REFUSAL 15
+#define PAPER_LAST_REFUSAL 16
 
 /* Change request Five's, in ticks: values are below the wrap, and steps go from the least to before the end. */
 #define PAPER_CLOCK_WRAP 8589934592LL
@@ -53,8 +54,19 @@ static const struct constants paper_most = {1023, 1023, 1048575, 4294967295LL, 4
 #define PAPER_LAST_CLOCK_POSITION 9007199254740992LL
 #define PAPER_TICKS_PER_MILLISECOND 90
 
-/* The length of a month, 1 to 12. */
+/* Change request Seven's: the week years that are given and taken, and those of labels. */
+#define PAPER_FIRST_WEEK_YEAR (-1)
+#define PAPER_LAST_WEEK_YEAR 9999
+#define PAPER_FIRST_LABEL_YEAR 0
+#define PAPER_LAST_LABEL_YEAR 9999
+#define PAPER_WEEK_LABEL "%04d-W%02d-%d"
+#define PAPER_WEEK_LABEL_BYTES 10
+
+/* The length of a month, 1 to 12, of any year. */
 int64_t plain_month_length(int64_t year, int64_t month);
+
+/* The weekday of any day, in the range or not. */
+int64_t plain_any_weekday(int64_t days);
 
 int64_t plain_days_from_civil(int64_t year, int64_t month, int64_t day, int64_t *days);
 int64_t plain_civil_from_days(int64_t days, int64_t *date);
@@ -63,12 +75,16 @@ int64_t plain_is_leap(int64_t year);
 int64_t plain_last_day_of_month(int64_t year, int64_t month);
 int64_t plain_day_of_year(int64_t year, int64_t month, int64_t day);
 int64_t plain_add_days(int64_t year, int64_t month, int64_t day, int64_t days, int64_t *date);
+int64_t plain_week_from_days(int64_t days, int64_t *week_date);
+int64_t plain_days_from_week(int64_t year, int64_t week, int64_t weekday, int64_t *days);
 int64_t plain_day_of_instant(int64_t instant, int64_t *days);
 int64_t plain_split_instant(int64_t instant, int64_t *fields);
 int64_t plain_join_instant(const int64_t *fields, int64_t *instant);
 int64_t plain_index_days(const int64_t *instants, size_t count, int32_t *days, size_t days_length, int64_t *place);
 int64_t plain_write_instant(int64_t instant, uint8_t *out, size_t length);
 int64_t plain_read_instant(const uint8_t *label, size_t length, int64_t *instant);
+int64_t plain_write_week(int64_t days, uint8_t *out, size_t length);
+int64_t plain_read_week(const uint8_t *label, size_t length, int64_t *days);
 int64_t plain_write_position(int64_t position, uint8_t *out, size_t length);
 int64_t plain_read_position(const uint8_t *text, size_t length);
 int64_t plain_read_cue(const uint8_t *line, size_t length, int64_t *cue);

@@ -69,9 +69,14 @@ int64_t plain_civil_from_days(int64_t days, int64_t *date)
     return 0;
 }
 
+int64_t plain_any_weekday(int64_t days)
+{
+    return paper_week[(days % 7 + 7) % 7];
+}
+
 int64_t plain_weekday(int64_t days)
 {
-    return outside(PAPER_FIRST_COUNT, PAPER_LAST_COUNT, days) ? -4 : paper_week[(days % 7 + 7) % 7];
+    return outside(PAPER_FIRST_COUNT, PAPER_LAST_COUNT, days) ? -4 : plain_any_weekday(days);
 }
 
 int64_t plain_is_leap(int64_t year)

@@ -1,6 +1,6 @@
 /*
- * The header's macros, structs and words against the numbers of document 01 and of change request Five. Compiled as C and as
- * C++, the header needing no other.
+ * The header's macros, structs and words against the numbers of document 01 and of change requests Five and Seven. Compiled as C
+ * and as C++, the header needing no other.
  */
 #include "ovenquill.h"
 
@@ -15,6 +15,10 @@ static void check_ranges(void)
 {
     SAME(OVENQUILL_FIRST_YEAR, PAPER_FIRST_YEAR);
     SAME(OVENQUILL_LAST_YEAR, PAPER_LAST_YEAR);
+    SAME(OVENQUILL_FIRST_WEEK_YEAR, PAPER_FIRST_WEEK_YEAR);
+    SAME(OVENQUILL_LAST_WEEK_YEAR, PAPER_LAST_WEEK_YEAR);
+    SAME(OVENQUILL_FIRST_LABEL_YEAR, PAPER_FIRST_LABEL_YEAR);
+    SAME(OVENQUILL_LAST_LABEL_YEAR, PAPER_LAST_LABEL_YEAR);
     SAME(OVENQUILL_FIRST_MONTH, 1);
     SAME(OVENQUILL_LAST_MONTH, 12);
     SAME(OVENQUILL_LAST_HOUR, 23);
@@ -22,6 +26,7 @@ static void check_ranges(void)
     SAME(OVENQUILL_LAST_SECOND, 59);
     SAME(OVENQUILL_LAST_MILLISECOND, PAPER_SECOND - 1);
     SAME(sizeof OVENQUILL_LAST_YEAR, sizeof(int64_t));
+    SAME(sizeof OVENQUILL_FIRST_WEEK_YEAR, sizeof(int64_t));
     SAME(OVENQUILL_FIRST_COUNT, PAPER_FIRST_COUNT);
     SAME(OVENQUILL_LAST_COUNT, PAPER_LAST_COUNT);
     SAME(OVENQUILL_INSTANTS_PER_DAY, PAPER_DAY);
@@ -35,6 +40,7 @@ static void check_ranges(void)
     SAME(OVENQUILL_LAST_CLOCK_POSITION, PAPER_LAST_CLOCK_POSITION);
     SAME(OVENQUILL_CLOCK_TICKS_PER_MILLISECOND, PAPER_TICKS_PER_MILLISECOND);
     SAME(OVENQUILL_INSTANT_LABEL_BYTES, PAPER_INSTANT_LABEL_BYTES);
+    SAME(OVENQUILL_WEEK_LABEL_BYTES, PAPER_WEEK_LABEL_BYTES);
     SAME(OVENQUILL_POSITION_LABEL_MIN_BYTES, PAPER_POSITION_LABEL_MIN_BYTES);
     SAME(OVENQUILL_POSITION_LABEL_MAX_BYTES, PAPER_POSITION_LABEL_MAX_BYTES);
 }
@@ -72,7 +78,13 @@ static void check_weekdays(void)
     SAME(OVENQUILL_SUNDAY, SUNDAY);
 }
 
-/* Each refusal by document 01's number; tests/test_readme.py holds their words to README's. */
+/* Whether the words of a refusal have those in them. */
+static int has_words(int64_t refusal, const char *words)
+{
+    return strstr(ovenquill_refusal_text(refusal), words) != NULL;
+}
+
+/* Each refusal by its number, with words of its own; tests/test_readme.py holds them to README's. */
 static void check_refusals(void)
 {
     static const int64_t refusals[] = {
@@ -81,13 +93,20 @@ static void check_refusals(void)
         OVENQUILL_BUFFER_TOO_SHORT,       OVENQUILL_MALFORMED_LABEL,           OVENQUILL_CONSTANT_OUT_OF_LIMITS,
         OVENQUILL_DIFFERENCE_BELOW_BOUND, OVENQUILL_NO_DIFFERENCE_UP_TO_BOUND, OVENQUILL_UNEQUAL_LENGTHS,
         OVENQUILL_MALFORMED_TIMING,       OVENQUILL_CLOCK_OUT_OF_RANGE,        OVENQUILL_OUT_OF_ORDER,
+        OVENQUILL_WEEK_OUT_OF_RANGE,
     };
     static const int64_t unknown[] = {-PAPER_LAST_REFUSAL - 1, INT32_MIN, INT64_MIN, INT64_MIN + 1};
     static const int64_t done[] = {0, 1, PAPER_LAST_REFUSAL, INT64_MAX};
     size_t i;
     same("number of refusals", 0, (int64_t)COUNT(refusals), PAPER_LAST_REFUSAL);
-    for (i = 0; i < COUNT(refusals); i++)
+    for (i = 0; i < COUNT(refusals); i++) {
         same("number of a refusal", (int64_t)i + 1, refusals[i], -(int64_t)i - 1);
+        same("words of a refusal", refusals[i], has_words(refusals[i], "unknown") || has_words(refusals[i], "not refused"), 0);
+    }
+    SAME(has_words(OVENQUILL_YEAR_OUT_OF_RANGE, "year outside 0..9999"), 1);
+    SAME(has_words(OVENQUILL_YEAR_OUT_OF_RANGE, "week year outside -1..9999"), 1);
+    SAME(has_words(OVENQUILL_MALFORMED_LABEL, "10"), 1);
+    SAME(has_words(OVENQUILL_WEEK_OUT_OF_RANGE, "weekday outside 1..7"), 1);
     for (i = 0; i < COUNT(unknown); i++)
         same("words of no refusal", unknown[i], strcmp(ovenquill_refusal_text(unknown[i]), "unknown refusal"), 0);
     for (i = 0; i < COUNT(done); i++)
@@ -98,21 +117,27 @@ static void check_refusals(void)
 static void check_structs(void)
 {
     static const ovenquill_date date = {1, 2, 3};
+    static const ovenquill_week_date week_date = {1, 2, 3};
     static const ovenquill_fields fields = {1, 2, 3, 4, 5, 6, 7};
     static const ovenquill_cue cue = {1, 2};
     static const ovenquill_clock clock = {1, 2}, start = OVENQUILL_CLOCK_START;
     static const int64_t row[] = {1, 2, 3, 4, 5, 6, 7};
     SAME(sizeof date, 3 * sizeof *row);
+    SAME(sizeof week_date, 3 * sizeof *row);
     SAME(sizeof fields, 7 * sizeof *row);
     SAME(sizeof cue, 2 * sizeof *row);
     SAME(sizeof clock, 2 * sizeof *row);
     SAME(memcmp(&date, row, sizeof date), 0);
+    SAME(memcmp(&week_date, row, sizeof week_date), 0);
     SAME(memcmp(&fields, row, sizeof fields), 0);
     SAME(memcmp(&cue, row, sizeof cue), 0);
     SAME(memcmp(&clock, row, sizeof clock), 0);
     SAME(date.year, 1);
     SAME(date.month, 2);
     SAME(date.day, 3);
+    SAME(week_date.year, 1);
+    SAME(week_date.week, 2);
+    SAME(week_date.weekday, 3);
     SAME(fields.year, 1);
     SAME(fields.month, 2);
     SAME(fields.day, 3);

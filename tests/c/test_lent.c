@@ -1,7 +1,8 @@
 /*
  * Every call, with what it is lent in heap blocks of exactly that size. Answers, buffers, lists and places are held to plain.h,
  * whole: what a refused call was lent and what stands after a label must be as it was. The texts for the readers of timestamps
- * and cue lines are in test_timings.c, and the calls of the transport clock in test_transport.c. Compiled as C and as C++.
+ * and cue lines are in test_timings.c, the calls of the transport clock in test_transport.c, and more numbers and labels of week
+ * dates in test_weeks.c. Compiled as C and as C++.
  */
 #include <string.h>
 
@@ -14,6 +15,8 @@
 #define LETTER_T 10
 #define LETTER_Z (LABEL - 1)
 #define RIGHT_INSTANT (1683729000 * PAPER_SECOND)
+#define WEEK_LABEL OVENQUILL_WEEK_LABEL_BYTES
+#define RIGHT_DAY 19487
 
 /* Each call at one input */
 
@@ -21,6 +24,7 @@ static void try_count(int64_t days)
 {
     same("ovenquill_weekday", days, ovenquill_weekday(days), plain_weekday(days));
     SAME_WITH_PLACE(ovenquill_date, days, ovenquill_civil_from_days(days, lent), plain_civil_from_days(days, right));
+    SAME_WITH_PLACE(ovenquill_week_date, days, ovenquill_week_from_days(days, lent), plain_week_from_days(days, right));
 }
 
 static void try_date(int64_t y, int64_t m, int64_t d, int64_t days)
@@ -30,6 +34,11 @@ static void try_date(int64_t y, int64_t m, int64_t d, int64_t days)
     same("ovenquill_day_of_year", d, ovenquill_day_of_year(y, m, d), plain_day_of_year(y, m, d));
     SAME_WITH_PLACE(int64_t, d, ovenquill_days_from_civil(y, m, d, lent), plain_days_from_civil(y, m, d, right));
     SAME_WITH_PLACE(ovenquill_date, days, ovenquill_add_days(y, m, d, days, lent), plain_add_days(y, m, d, days, right));
+}
+
+static void try_week(int64_t y, int64_t w, int64_t d)
+{
+    SAME_WITH_PLACE(int64_t, y, ovenquill_days_from_week(y, w, d, lent), plain_days_from_week(y, w, d, right));
 }
 
 static void try_instant(int64_t instant)
@@ -60,6 +69,9 @@ static void try_writers(int64_t n, size_t length)
     out = (uint8_t *)lend(length), right = (uint8_t *)lend(length);
     same("ovenquill_write_position", n, ovenquill_write_position(n, out, length), plain_write_position(n, right, length));
     hold("ovenquill_write_position", n, out, right, length);
+    out = (uint8_t *)lend(length), right = (uint8_t *)lend(length);
+    same("ovenquill_write_week", n, ovenquill_write_week(n, out, length), plain_write_week(n, right, length));
+    hold("ovenquill_write_week", n, out, right, length);
 }
 
 static void try_reader(const void *label, size_t length)
@@ -68,6 +80,14 @@ static void try_reader(const void *label, size_t length)
     SAME_WITH_PLACE(int64_t, (int64_t)length, ovenquill_read_instant(lent_label, length, lent),
                     plain_read_instant(same_label, length, right));
     hold("ovenquill_read_instant in its label", (int64_t)length, lent_label, same_label, length);
+}
+
+static void try_week_reader(const void *label, size_t length)
+{
+    uint8_t *lent_label = (uint8_t *)lend_copy(label, length), *same_label = (uint8_t *)lend_copy(label, length);
+    SAME_WITH_PLACE(int64_t, (int64_t)length, ovenquill_read_week(lent_label, length, lent),
+                    plain_read_week(same_label, length, right));
+    hold("ovenquill_read_week in its label", (int64_t)length, lent_label, same_label, length);
 }
 
 /* Answers what the plain call does. */
@@ -127,10 +147,15 @@ static void check_edges(void)
         try_date(2000, 2, 29, e);
         try_date(OVENQUILL_FIRST_YEAR, 1, 1, e);
         try_date(OVENQUILL_LAST_YEAR, 12, 31, e);
+        try_week(e, 1, 1);
+        try_week(2020, e, 1);
+        try_week(2020, 53, e);
         for (j = 0; j < COUNT(edges); j++) {
             try_date(e, edges[j], edges[j], edges[j]);
             try_date(2000, e, edges[j], edges[j]);
             try_date(2000, 2, e, edges[j]);
+            try_week(e, edges[j], edges[j]);
+            try_week(2020, e, edges[j]);
         }
     }
     /* each field at the edges and at the numbers around its range's ends, with the others right and with one of them wrong */
@@ -162,10 +187,13 @@ static void check_random(int rounds)
         try_date(year, month, random_within(-1, 33), random_within(-width, width));
         try_date(year, month, random_within(1, 28), random_within(-width, width));
         try_fields(date_time);
+        try_week(year, random_within(-1, 55), random_within(-1, 9));
         try_count(random_within(-width, width));
         try_instant(random_instant());
         try_instant(random_within(-width, width));
         try_writers(random_instant(), (size_t)random_within(LABEL - 1, LABEL + 1));
+        try_writers(random_within(OVENQUILL_FIRST_COUNT, OVENQUILL_LAST_COUNT),
+                    (size_t)random_within(WEEK_LABEL - 1, WEEK_LABEL + 1));
         try_writers(random_within(0, width),
                     (size_t)random_within(OVENQUILL_POSITION_LABEL_MIN_BYTES - 1, OVENQUILL_POSITION_LABEL_MAX_BYTES + 1));
     }
@@ -265,6 +293,26 @@ static void check_reader(void)
             try_reading(year, 1 + k % 12, 28, k, 59, 60 - k % 2);
             try_reading(year, 12, 31, 0, k, 100 - k - 1);
         }
+}
+
+/* Week labels cut off, followed by others, and of random days. */
+static void check_week_reader(void)
+{
+    static uint8_t labels[LONGEST + WEEK_LABEL];
+    uint8_t label[WEEK_LABEL];
+    size_t i;
+    for (i = 0; i + WEEK_LABEL <= sizeof labels; i += WEEK_LABEL)
+        plain_write_week(RIGHT_DAY, labels + i, WEEK_LABEL);
+    for (i = 0; i <= SHORT; i++)
+        try_week_reader(labels, i);
+    for (i = 0; i < COUNT(long_lengths); i++)
+        try_week_reader(labels, long_lengths[i]);
+    try_week_reader(labels, 256 + WEEK_LABEL);
+    try_week_reader(labels, 65536 + WEEK_LABEL);
+    for (i = 0; i < 1000; i++) {
+        plain_write_week(random_within(OVENQUILL_FIRST_COUNT + 2, OVENQUILL_LAST_COUNT), label, WEEK_LABEL);
+        try_week_reader(label, WEEK_LABEL);
+    }
 }
 
 static const int64_t bad[] = {OVENQUILL_FIRST_INSTANT - 1, OVENQUILL_LAST_INSTANT + 1, INT64_MIN, INT64_MAX};
@@ -613,8 +661,13 @@ static void check_null(void)
     same("null buffer for a bad instant", 0, ovenquill_write_instant(INT64_MAX, NULL, 0), OVENQUILL_OUT_OF_RANGE);
     same("null buffer for a position", 0, ovenquill_write_position(0, NULL, 0), OVENQUILL_BUFFER_TOO_SHORT);
     same("null buffer for a bad position", 0, ovenquill_write_position(-1, NULL, 0), OVENQUILL_POSITION_OUT_OF_RANGE);
+    same("null buffer for a week", 0, ovenquill_write_week(0, NULL, 0), OVENQUILL_BUFFER_TOO_SHORT);
+    same("null buffer for a week of no label", 0, ovenquill_write_week(OVENQUILL_FIRST_COUNT, NULL, 0),
+         OVENQUILL_YEAR_OUT_OF_RANGE);
+    same("null buffer for a bad week", 0, ovenquill_write_week(INT64_MAX, NULL, 0), OVENQUILL_OUT_OF_RANGE);
     same("null timestamp", 0, ovenquill_read_position(NULL, 0), OVENQUILL_MALFORMED_TIMING);
     SAME_WITH_PLACE(int64_t, 0, ovenquill_read_instant(NULL, 0, lent), plain_read_instant(NULL, 0, right));
+    SAME_WITH_PLACE(int64_t, 0, ovenquill_read_week(NULL, 0, lent), plain_read_week(NULL, 0, right));
     SAME_WITH_PLACE(ovenquill_cue, 0, ovenquill_read_cue(NULL, 0, lent), plain_read_cue(NULL, 0, right));
     SAME_WITH_PLACE(int64_t, 0, ovenquill_index_days(NULL, 0, NULL, 0, lent), plain_index_days(NULL, 0, NULL, 0, right));
     SAME_WITH_PLACE(int64_t, 1, ovenquill_index_days(none, 1, NULL, 0, lent), plain_index_days(none, 1, NULL, 0, right));
@@ -682,6 +735,22 @@ static void check_unset_places(void)
                     plain_check_bound(q, 70, right));
 }
 
+static void check_unset_weeks(void)
+{
+    static const uint8_t label[] = "2023-W19-3", damaged[] = "2023-W19-!", no_week[] = "2023-W53-3", late[] = "9999-W52-6";
+    DONE_WITH_UNSET(ovenquill_week_date, ovenquill_week_from_days(-1, lent), plain_week_from_days(-1, right));
+    REFUSED_WITH_UNSET(ovenquill_week_date, ovenquill_week_from_days(INT64_MAX, lent), plain_week_from_days(INT64_MAX, right));
+    DONE_WITH_UNSET(int64_t, ovenquill_days_from_week(2023, 19, 3, lent), plain_days_from_week(2023, 19, 3, right));
+    REFUSED_WITH_UNSET(int64_t, ovenquill_days_from_week(-2, 1, 1, lent), plain_days_from_week(-2, 1, 1, right));
+    REFUSED_WITH_UNSET(int64_t, ovenquill_days_from_week(2023, 53, 1, lent), plain_days_from_week(2023, 53, 1, right));
+    REFUSED_WITH_UNSET(int64_t, ovenquill_days_from_week(-1, 52, 5, lent), plain_days_from_week(-1, 52, 5, right));
+    DONE_WITH_UNSET(int64_t, ovenquill_read_week(label, WEEK_LABEL, lent), plain_read_week(label, WEEK_LABEL, right));
+    REFUSED_WITH_UNSET(int64_t, ovenquill_read_week(label, WEEK_LABEL - 1, lent), plain_read_week(label, WEEK_LABEL - 1, right));
+    REFUSED_WITH_UNSET(int64_t, ovenquill_read_week(damaged, WEEK_LABEL, lent), plain_read_week(damaged, WEEK_LABEL, right));
+    REFUSED_WITH_UNSET(int64_t, ovenquill_read_week(no_week, WEEK_LABEL, lent), plain_read_week(no_week, WEEK_LABEL, right));
+    REFUSED_WITH_UNSET(int64_t, ovenquill_read_week(late, WEEK_LABEL, lent), plain_read_week(late, WEEK_LABEL, right));
+}
+
 static void check_unset_buffers(void)
 {
     const size_t position_label = OVENQUILL_POSITION_LABEL_MIN_BYTES;
@@ -689,6 +758,11 @@ static void check_unset_buffers(void)
     SAME_WITH_UNSET(uint8_t, uint8_t, 9, 0, ovenquill_write_instant(-1, lent, 9), plain_write_instant(-1, right, 9));
     SAME_WITH_UNSET(uint8_t, uint8_t, 99, 0, ovenquill_write_instant(INT64_MAX, lent, 99),
                     plain_write_instant(INT64_MAX, right, 99));
+    SAME_WITH_UNSET(uint8_t, uint8_t, 99, WEEK_LABEL, ovenquill_write_week(-1, lent, 99), plain_write_week(-1, right, 99));
+    SAME_WITH_UNSET(uint8_t, uint8_t, 9, 0, ovenquill_write_week(-1, lent, 9), plain_write_week(-1, right, 9));
+    SAME_WITH_UNSET(uint8_t, uint8_t, 99, 0, ovenquill_write_week(OVENQUILL_FIRST_COUNT, lent, 99),
+                    plain_write_week(OVENQUILL_FIRST_COUNT, right, 99));
+    SAME_WITH_UNSET(uint8_t, uint8_t, 99, 0, ovenquill_write_week(INT64_MAX, lent, 99), plain_write_week(INT64_MAX, right, 99));
     SAME_WITH_UNSET(uint8_t, uint8_t, 99, position_label, ovenquill_write_position(0, lent, 99),
                     plain_write_position(0, right, 99));
     SAME_WITH_UNSET(uint8_t, uint8_t, 9, 0, ovenquill_write_position(0, lent, 9), plain_write_position(0, right, 9));
@@ -729,6 +803,7 @@ int main(int argc, char **argv)
     check_random(rounds);
     check_writers();
     check_reader();
+    check_week_reader();
     check_short_lists();
     check_two_instants();
     check_many_falls();
@@ -742,6 +817,7 @@ int main(int argc, char **argv)
     check_constants(rounds / 4);
     check_null();
     check_unset_places();
+    check_unset_weeks();
     check_unset_buffers();
     check_unset_index();
     return finish("lent blocks");

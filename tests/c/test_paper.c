@@ -1,7 +1,7 @@
 /*
  * Document 01's rows, "Numbers to try", and the words of change request One on reading positions, of Three on small letters,
- * of Four on weekdays, with a week of dates by the names and the numbers of their days, of Five on the transport clock, and of
- * Six on the order of an index. Compiled as C and as C++.
+ * of Four on weekdays, with a week of dates by the names and the numbers of their days, of Five on the transport clock, of Six on
+ * the order of an index, and of Seven on week dates. Compiled as C and as C++.
  */
 #include <string.h>
 
@@ -388,6 +388,136 @@ static void check_order_of_index(void)
     check_refused_index(last + 1, 1, 0, 4, OVENQUILL_UNEQUAL_LENGTHS, -1);
 }
 
+/* A day count and its week date, each led to the other. */
+static void check_week(int64_t count, int64_t year, int64_t week, int64_t weekday)
+{
+    ovenquill_week_date date = {0, 0, 0};
+    int64_t days = 0;
+    same("week date of a count", count, ovenquill_week_from_days(count, &date), 0);
+    same("week year of a count", count, date.year, year);
+    same("week of a count", count, date.week, week);
+    same("weekday of a count", count, date.weekday, weekday);
+    same("days of a week date", count, ovenquill_days_from_week(year, week, weekday, &days), 0);
+    same("days of a week date", count, days, count);
+}
+
+static void check_refused_count(int64_t count)
+{
+    ovenquill_week_date date = {7, 7, 7};
+    same("a refused count", count, ovenquill_week_from_days(count, &date), OVENQUILL_OUT_OF_RANGE);
+    same("the week date of a refused count", count, date.year == 7 && date.week == 7 && date.weekday == 7, 1);
+}
+
+static void check_refused_week(int64_t year, int64_t week, int64_t weekday, int64_t refusal)
+{
+    int64_t days = 7;
+    same("a refused week date", year, ovenquill_days_from_week(year, week, weekday, &days), refusal);
+    same("the days of a refused week date", year, days, 7);
+}
+
+/*
+ * "Week 1 holds the year's first Thursday." "Day -719528 lies in week year -1, so that year is given and taken for the days in
+ * range only." "Refusal 1 for a week year outside -1..9999; 16 for a week that its year doesn't have or a weekday outside 1..7; 4
+ * for a result out of range, as for 9999-W52-6."
+ */
+static void check_week_dates(void)
+{
+    check_date(18627, 2020, 12, 31);
+    check_date(18628, 2021, 1, 1);
+    check_week(19487, 2023, 19, OVENQUILL_WEDNESDAY);
+    check_week(18627, 2020, 53, OVENQUILL_THURSDAY);
+    check_week(18628, 2020, 53, OVENQUILL_FRIDAY);
+    check_week(-719528, -1, 52, OVENQUILL_SATURDAY);
+    check_week(-719527, -1, 52, OVENQUILL_SUNDAY);
+    check_week(-719526, 0, 1, OVENQUILL_MONDAY);
+    check_week(2932896, 9999, 52, OVENQUILL_FRIDAY);
+    check_refused_count(-719529);
+    check_refused_count(2932897);
+    check_refused_week(-2, 1, 1, OVENQUILL_YEAR_OUT_OF_RANGE);
+    check_refused_week(10000, 1, 1, OVENQUILL_YEAR_OUT_OF_RANGE);
+    check_refused_week(-1, 53, 1, OVENQUILL_WEEK_OUT_OF_RANGE);
+    check_refused_week(2021, 53, 1, OVENQUILL_WEEK_OUT_OF_RANGE);
+    check_refused_week(2020, 54, 1, OVENQUILL_WEEK_OUT_OF_RANGE);
+    check_refused_week(2020, 0, 1, OVENQUILL_WEEK_OUT_OF_RANGE);
+    check_refused_week(2020, 1, 0, OVENQUILL_WEEK_OUT_OF_RANGE);
+    check_refused_week(2020, 1, 8, OVENQUILL_WEEK_OUT_OF_RANGE);
+    check_refused_week(-1, 52, 5, OVENQUILL_OUT_OF_RANGE);
+    check_refused_week(-1, 1, 1, OVENQUILL_OUT_OF_RANGE);
+    check_refused_week(9999, 52, 6, OVENQUILL_OUT_OF_RANGE);
+    check_refused_week(9999, 52, 7, OVENQUILL_OUT_OF_RANGE);
+    /* 1 before 16, and 16 before 4 */
+    check_refused_week(-2, 54, 8, OVENQUILL_YEAR_OUT_OF_RANGE);
+    check_refused_week(10000, 0, 0, OVENQUILL_YEAR_OUT_OF_RANGE);
+    check_refused_week(-1, 0, 5, OVENQUILL_WEEK_OUT_OF_RANGE);
+    check_refused_week(-1, 52, 0, OVENQUILL_WEEK_OUT_OF_RANGE);
+    check_refused_week(9999, 53, 1, OVENQUILL_WEEK_OUT_OF_RANGE);
+    check_refused_week(9999, 52, 8, OVENQUILL_WEEK_OUT_OF_RANGE);
+}
+
+/* A day and its label, each led to the other; the two bytes after the label are kept. */
+static void check_week_label(int64_t count, const char *label)
+{
+    uint8_t out[12];
+    int64_t days = 0;
+    memset(out, '?', sizeof out);
+    same("writing a week label", count, ovenquill_write_week(count, out, sizeof out), 10);
+    same("a week label", count, memcmp(out, label, 10), 0);
+    same("the bytes after a week label", count, memcmp(out + 10, "??", 2), 0);
+    same("reading a week label", count, ovenquill_read_week(out, 10, &days), 0);
+    same("the days of a week label", count, days, count);
+}
+
+static void check_unwritten_week(int64_t count, size_t length, int64_t refusal)
+{
+    uint8_t out[10];
+    memset(out, '?', sizeof out);
+    same("a refused week label", count, ovenquill_write_week(count, out, length), refusal);
+    same("the buffer of a refused week label", count, memcmp(out, "??????????", sizeof out), 0);
+}
+
+static void check_unread_week(const char *label, int64_t refusal)
+{
+    const long before = failures;
+    int64_t days = 7;
+    same("an unread week label", 0, ovenquill_read_week((const uint8_t *)label, strlen(label), &days), refusal);
+    same("the days of an unread week label", 0, days, 7);
+    show_failed(before, label, strlen(label));
+}
+
+/*
+ * "`YYYY-Www-D`, 10 bytes, week years 0 to 9999 only; the writer takes a day count and refuses with 4, then 1 for other week years,
+ * then 7. Order of the reader's checks: shape (8, here any length but 10), year (1), week, weekday (16), range (4)."
+ */
+static void check_week_labels(void)
+{
+    check_week_label(19487, "2023-W19-3");
+    check_week_label(18627, "2020-W53-4");
+    check_week_label(18628, "2020-W53-5");
+    check_week_label(-719526, "0000-W01-1");
+    check_week_label(2932896, "9999-W52-5");
+    check_unwritten_week(-719529, 9, OVENQUILL_OUT_OF_RANGE);
+    check_unwritten_week(2932897, 10, OVENQUILL_OUT_OF_RANGE);
+    check_unwritten_week(-719528, 9, OVENQUILL_YEAR_OUT_OF_RANGE);
+    check_unwritten_week(-719527, 10, OVENQUILL_YEAR_OUT_OF_RANGE);
+    check_unwritten_week(-719526, 9, OVENQUILL_BUFFER_TOO_SHORT);
+    check_unwritten_week(19487, 0, OVENQUILL_BUFFER_TOO_SHORT);
+    check_unread_week("-001-W52-6", OVENQUILL_MALFORMED_LABEL);
+    check_unread_week("2023-w19-3", OVENQUILL_MALFORMED_LABEL);
+    check_unread_week("2023-W1-3", OVENQUILL_MALFORMED_LABEL);
+    check_unread_week("10000-W01-1", OVENQUILL_MALFORMED_LABEL);
+    check_unread_week("2023-W00-1", OVENQUILL_WEEK_OUT_OF_RANGE);
+    check_unread_week("2023-W53-1", OVENQUILL_WEEK_OUT_OF_RANGE);
+    check_unread_week("2023-W01-0", OVENQUILL_WEEK_OUT_OF_RANGE);
+    check_unread_week("2023-W01-8", OVENQUILL_WEEK_OUT_OF_RANGE);
+    check_unread_week("2023-W01-9", OVENQUILL_WEEK_OUT_OF_RANGE);
+    check_unread_week("9999-W52-6", OVENQUILL_OUT_OF_RANGE);
+    check_unread_week("9999-W52-7", OVENQUILL_OUT_OF_RANGE);
+    /* 8 before 16, and 16 before 4 */
+    check_unread_week("2023-w00-8", OVENQUILL_MALFORMED_LABEL);
+    check_unread_week("9999-W53-6", OVENQUILL_WEEK_OUT_OF_RANGE);
+    check_unread_week("9999-W52-8", OVENQUILL_WEEK_OUT_OF_RANGE);
+}
+
 int main(void)
 {
     check_calendar();
@@ -401,5 +531,7 @@ int main(void)
     check_refused_values();
     check_batches();
     check_order_of_index();
-    return finish("the numbers of document 01 and of change requests One, Three, Four, Five and Six");
+    check_week_dates();
+    check_week_labels();
+    return finish("the numbers of document 01 and of change requests One, Three, Four, Five, Six and Seven");
 }

@@ -34,6 +34,15 @@ static void show_answer(int64_t answer)
     show(answer, &answer, 1);
 }
 
+/* A writer's answer and the bytes of the buffer that it was lent, which began as question marks. */
+static void show_written(int64_t writer(int64_t, uint8_t *, size_t), int64_t number, size_t length)
+{
+    uint8_t out[32];
+    memset(out, '?', sizeof out);
+    show_answer(writer(number, out, length));
+    printf(" %.*s", (int)length, (const char *)out);
+}
+
 static void day_row(int64_t days)
 {
     int64_t date[3];
@@ -93,6 +102,91 @@ static void calendar_rows(void)
     shift_row(9999, 12, 31, INT64_MAX);
     shift_row(0, 1, 1, INT64_MIN);
     shift_row(1900, 2, 29, 0);
+}
+
+static void week_row(int64_t days)
+{
+    int64_t week_date[3];
+    printf("day %" PRId64 ": week date ", days);
+    show(plain_week_from_days(days, week_date), week_date, 3);
+    printf("\n");
+}
+
+static void week_date_row(int64_t year, int64_t week, int64_t weekday)
+{
+    int64_t days;
+    printf("week date %" PRId64 " %" PRId64 " %" PRId64 ": count ", year, week, weekday);
+    show(plain_days_from_week(year, week, weekday, &days), &days, 1);
+    printf("\n");
+}
+
+static void week_label_row(int64_t days)
+{
+    printf("day %" PRId64 ": label ", days);
+    show_written(plain_write_week, days, PAPER_WEEK_LABEL_BYTES);
+    printf("\n");
+}
+
+static void short_week_label_row(int64_t days)
+{
+    printf("day %" PRId64 " in %d bytes: label ", days, PAPER_WEEK_LABEL_BYTES - 1);
+    show_written(plain_write_week, days, PAPER_WEEK_LABEL_BYTES - 1);
+    printf("\n");
+}
+
+static void week_label_read_row(const char *text)
+{
+    int64_t days;
+    printf("label %s: day ", text);
+    show(plain_read_week((const uint8_t *)text, strlen(text), &days), &days, 1);
+    printf("\n");
+}
+
+static void week_rows(void)
+{
+    week_row(19487);
+    week_row(18627);
+    week_row(18628);
+    week_row(-719528);
+    week_row(-719527);
+    week_row(-719526);
+    week_row(2932896);
+    week_row(-719529);
+    week_row(2932897);
+    week_date_row(-1, 52, 6);
+    week_date_row(-1, 52, 5);
+    week_date_row(-1, 53, 1);
+    week_date_row(-2, 1, 1);
+    week_date_row(10000, 1, 1);
+    week_date_row(9999, 52, 5);
+    week_date_row(9999, 52, 6);
+    week_date_row(9999, 52, 7);
+    week_date_row(2021, 53, 1);
+    week_date_row(2020, 53, 4);
+    week_date_row(2020, 0, 1);
+    week_date_row(2020, 1, 0);
+    week_date_row(2020, 1, 8);
+    week_label_row(19487);
+    week_label_row(18627);
+    week_label_row(18628);
+    week_label_row(-719528);
+    week_label_row(-719526);
+    week_label_row(-719529);
+    week_label_row(2932897);
+    short_week_label_row(19487);
+    week_label_read_row("2023-W19-3");
+    week_label_read_row("2020-W53-4");
+    week_label_read_row("2020-W53-5");
+    week_label_read_row("2023-w19-3");
+    week_label_read_row("2023-W00-1");
+    week_label_read_row("2023-W01-0");
+    week_label_read_row("2023-W01-8");
+    week_label_read_row("2023-W01-9");
+    week_label_read_row("-001-W52-6");
+    week_label_read_row("9999-W52-6");
+    week_label_read_row("0000-W01-1");
+    week_label_read_row("2023-W1-3");
+    week_label_read_row("10000-W01-1");
 }
 
 static void instant_row(int64_t instant)
@@ -158,15 +252,6 @@ static void instant_rows(void)
     index_row(NULL, both_wrong, 3, 3, 3);
     index_row("of no instants", across, 0, 0, 0);
     index_row("of one instant with two days", across, 1, 2, 0);
-}
-
-/* A writer's answer and the bytes of the buffer that it was lent, which began as question marks. */
-static void show_written(int64_t writer(int64_t, uint8_t *, size_t), int64_t number, size_t length)
-{
-    uint8_t out[32];
-    memset(out, '?', sizeof out);
-    show_answer(writer(number, out, length));
-    printf(" %.*s", (int)length, (const char *)out);
 }
 
 static void label_row(int64_t instant)
@@ -390,6 +475,7 @@ static void clock_rows(void)
 int main(void)
 {
     calendar_rows();
+    week_rows();
     instant_rows();
     label_rows();
     timing_rows();
