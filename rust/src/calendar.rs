@@ -2,9 +2,9 @@
 
 use crate::raw;
 use crate::refusal::{placed, returned, Refusal};
-use core::fmt::{self, Write};
+use crate::text::pad_date;
+use core::fmt;
 use core::ops::RangeInclusive;
-use core::str;
 
 /// The first and the last year.
 pub const YEARS: RangeInclusive<i64> = 0..=9999;
@@ -62,34 +62,7 @@ impl Date {
 /// Writes `YYYY-MM-DD`, with a minus sign before a year below zero and more digits where a number has them.
 impl fmt::Display for Date {
     fn fmt(&self, f: &mut fmt::Formatter<'_>) -> fmt::Result {
-        let sign = if self.year < 0 { "-" } else { "" };
-        let mut text = Text { bytes: [0; DATE_TEXT_BYTES], length: 0 };
-        write!(text, "{sign}{:04}-{:02}-{:02}", self.year.unsigned_abs(), self.month, self.day)?;
-        f.pad(text.as_str())
-    }
-}
-
-/// The bytes of the longest date as text: three times the longest number, and two marks.
-const DATE_TEXT_BYTES: usize = 3 * "-9223372036854775808".len() + 2;
-
-/// The text of a date, whose length must be known before it is padded.
-struct Text {
-    bytes: [u8; DATE_TEXT_BYTES],
-    length: usize,
-}
-
-impl Text {
-    fn as_str(&self) -> &str {
-        self.bytes.get(..self.length).and_then(|bytes| str::from_utf8(bytes).ok()).unwrap_or_default()
-    }
-}
-
-impl fmt::Write for Text {
-    fn write_str(&mut self, text: &str) -> fmt::Result {
-        let free = self.bytes.get_mut(self.length..).and_then(|free| free.get_mut(..text.len())).ok_or(fmt::Error)?;
-        free.copy_from_slice(text.as_bytes());
-        self.length += text.len();
-        Ok(())
+        pad_date(f, self.year, format_args!("{:02}-{:02}", self.month, self.day))
     }
 }
 

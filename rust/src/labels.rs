@@ -1,4 +1,5 @@
-//! Labels: the RFC 3339 form of instants and the WebVTT form of positions, timestamps and cue lines.
+//! Labels: the RFC 3339 form of instants, the ISO 8601 form of week dates, and the WebVTT form of positions, timestamps and cue
+//! lines.
 
 use crate::raw;
 use crate::refusal::{counted, placed, returned, Refusal};
@@ -15,6 +16,19 @@ macro_rules! instant_label_form {
 
 #[doc = concat!("The bytes of an instant label, `", instant_label_form!(), "`.")]
 pub const INSTANT_LABEL_BYTES: usize = instant_label_form!().len();
+
+/// The form of a week label.
+macro_rules! week_label_form {
+    () => {
+        "YYYY-Www-D"
+    };
+}
+
+#[doc = concat!("The bytes of a week label, `", week_label_form!(), "`.")]
+pub const WEEK_LABEL_BYTES: usize = week_label_form!().len();
+
+/// The first and the last week year that a week label can have: those that four digits can tell.
+pub const LABEL_YEARS: RangeInclusive<i64> = 0..=9999;
 
 /// The first and the last position, in milliseconds.
 ///
@@ -69,6 +83,51 @@ pub fn write_instant(instant: i64, out: &mut [u8]) -> Result<usize, Refusal> {
 pub fn read_instant(label: &[u8]) -> Result<i64, Refusal> {
     // SAFETY: the pointer and the length are those of one slice, and the place is ours to lend.
     placed(0, |instant| unsafe { raw::ovenquill_read_instant(label.as_ptr(), label.len(), instant) })
+}
+
+#[doc = concat!("Writes the week label of a count of days from 1970-01-01, `", week_label_form!(), "`, to the front of a")]
+/// buffer and answers its length. The bytes behind it are unchanged.
+///
+/// Refused are, in this order, a count outside [`DAYS`](crate::DAYS) ([`Refusal::OutOfRange`]), the first two of these, whose
+/// week year is outside [`LABEL_YEARS`] ([`Refusal::YearOutOfRange`]), and a buffer of fewer than [`WEEK_LABEL_BYTES`]
+/// ([`Refusal::BufferTooShort`]).
+///
+/// ```
+/// use ovenquill::{write_week, Refusal, DAYS, WEEK_LABEL_BYTES};
+///
+/// let mut buffer = [b'.'; WEEK_LABEL_BYTES + 2];
+/// assert_eq!(write_week(19487, &mut buffer), Ok(WEEK_LABEL_BYTES));
+/// assert_eq!(&buffer, b"2023-W19-3..");
+/// assert_eq!(write_week(*DAYS.start(), &mut buffer), Err(Refusal::YearOutOfRange));
+/// assert_eq!(write_week(0, &mut buffer[..WEEK_LABEL_BYTES - 1]), Err(Refusal::BufferTooShort));
+/// assert_eq!(&buffer, b"2023-W19-3..");
+/// ```
+#[inline]
+pub fn write_week(days: i64, out: &mut [u8]) -> Result<usize, Refusal> {
+    // SAFETY: the pointer and the length are those of one slice that is ours to lend.
+    counted(unsafe { raw::ovenquill_write_week(days, out.as_mut_ptr(), out.len()) })
+}
+
+/// The count, in days from 1970-01-01, of a week label, whose W is a capital.
+///
+/// What is read is what [`write_week`] writes for that count.
+///
+/// Refused are, in this order, bytes that are no label ([`Refusal::MalformedLabel`]), a week that the year does not have or a
+/// weekday outside 1 to 7 ([`Refusal::WeekOutOfRange`]) and a day after the last of [`DAYS`](crate::DAYS)
+/// ([`Refusal::OutOfRange`]).
+///
+/// ```
+/// use ovenquill::{read_week, Refusal};
+///
+/// assert_eq!(read_week(b"2023-W19-3"), Ok(19487));
+/// assert_eq!(read_week(b"2023-w19-3"), Err(Refusal::MalformedLabel));
+/// assert_eq!(read_week(b"2021-W53-1"), Err(Refusal::WeekOutOfRange));
+/// assert_eq!(read_week(b"9999-W52-6"), Err(Refusal::OutOfRange));
+/// ```
+#[inline]
+pub fn read_week(label: &[u8]) -> Result<i64, Refusal> {
+    // SAFETY: the pointer and the length are those of one slice, and the place is ours to lend.
+    placed(0, |days| unsafe { raw::ovenquill_read_week(label.as_ptr(), label.len(), days) })
 }
 
 /// Writes the label of a position, hours and `:MM:SS.mmm`, to the front of a buffer and answers its length. The bytes
@@ -268,6 +327,27 @@ label_type! {
 }
 
 label_type! {
+    /// The label of a week date. The order of labels is that of their days.
+    ///
+    /// [`week_label`] makes one of a count of days. One is read from text with [`str::parse`] and from bytes with
+    /// [`TryFrom`], which refuse what [`read_week`] refuses.
+    ///
+    /// ```
+    /// use ovenquill::{read_week, week_label, Refusal, WeekLabel};
+    ///
+    /// let label = week_label(19487)?;
+    /// assert_eq!(label, "2023-W19-3");
+    /// assert_eq!(read_week(label.as_ref())?, 19487);
+    ///
+    /// let read: WeekLabel = "2023-W20-1".parse()?;
+    /// assert!(label < read);
+    /// assert_eq!("2023-W20".parse::<WeekLabel>(), Err(Refusal::MalformedLabel));
+    /// # Ok::<(), Refusal>(())
+    /// ```
+    WeekLabel, WEEK_LABEL_BYTES
+}
+
+label_type! {
     /// The label of a position. The order of labels is that of their positions.
     ///
     /// [`position_label`] makes one of a position. One is read from text with [`str::parse`] and from bytes with
@@ -310,6 +390,7 @@ macro_rules! read_label_type {
 }
 
 read_label_type!(InstantLabel, read_instant, instant_label);
+read_label_type!(WeekLabel, read_week, week_label);
 read_label_type!(PositionLabel, read_position, position_label);
 
 /// The label of an instant, by value.
@@ -326,6 +407,24 @@ read_label_type!(PositionLabel, read_position, position_label);
 #[inline]
 pub fn instant_label(instant: i64) -> Result<InstantLabel, Refusal> {
     InstantLabel::written(|out| write_instant(instant, out))
+}
+
+/// The week label of a count of days from 1970-01-01, by value.
+///
+/// Refused are a count outside [`DAYS`](crate::DAYS) ([`Refusal::OutOfRange`]) and then the first two of these, whose week year
+/// is outside [`LABEL_YEARS`] ([`Refusal::YearOutOfRange`]).
+///
+/// ```
+/// use ovenquill::{week_label, Refusal, DAYS};
+///
+/// assert_eq!(week_label(0)?, "1970-W01-4");
+/// assert_eq!(week_label(DAYS.start() + 1), Err(Refusal::YearOutOfRange));
+/// assert_eq!(week_label(DAYS.start() + 2)?, "0000-W01-1");
+/// # Ok::<(), Refusal>(())
+/// ```
+#[inline]
+pub fn week_label(days: i64) -> Result<WeekLabel, Refusal> {
+    WeekLabel::written(|out| write_week(days, out))
 }
 
 /// The label of a position, by value.

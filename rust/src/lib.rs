@@ -1,5 +1,6 @@
-//! The proleptic Gregorian calendar, instants and their RFC 3339 labels, position labels (WebVTT timestamps) and cue lines,
-//! a checker of multiply-and-shift constants, and a follower of the 33-bit transport clock, proved right.
+//! The proleptic Gregorian calendar, ISO 8601 week dates and their labels, instants and their RFC 3339 labels, position
+//! labels (WebVTT timestamps) and cue lines, a checker of multiply-and-shift constants, and a follower of the 33-bit
+//! transport clock, proved right.
 //!
 //! This package is a safe wrapper over the archive `libovenquill.a`, whose functions are proved to meet their contracts.
 //! What the wrapper itself does is small: it lends the calls places for their answers and gives the numbers of refusals
@@ -8,6 +9,7 @@
 //! | subject | types | calls |
 //! |---|---|---|
 //! | days and dates | [`Date`], [`Weekday`] | [`days_from_civil`], [`civil_from_days`], [`weekday`], [`is_leap`], [`last_day_of_month`], [`day_of_year`], [`add_days`] |
+//! | week dates and their labels | [`WeekDate`], [`WeekLabel`] | [`week_from_days`], [`days_from_week`], [`week_label`], [`write_week`], [`read_week`] |
 //! | instants | [`Fields`], [`IndexError`] | [`day_of_instant`], [`split_instant`], [`join_instant`], [`index_days`] |
 //! | labels of instants | [`InstantLabel`] | [`instant_label`], [`write_instant`], [`read_instant`] |
 //! | labels of positions, cue lines | [`PositionLabel`], [`Cue`] | [`position_label`], [`write_position`], [`read_position`], [`read_cue`] |
@@ -20,7 +22,9 @@
 //! milliseconds from 1970-01-01 00:00, both negative before. There are no time zones, no leap seconds and no locale.
 //!
 //! ```
-//! use ovenquill::{civil_from_days, day_of_instant, instant_label, read_instant, weekday, Date, Refusal, Weekday};
+//! use ovenquill::{
+//!     civil_from_days, day_of_instant, instant_label, read_instant, week_label, weekday, Date, Refusal, Weekday,
+//! };
 //!
 //! let instant = read_instant(b"2023-05-10T14:30:00.000Z")?;
 //! assert_eq!(instant, 1683729000000);
@@ -29,6 +33,7 @@
 //! let days = day_of_instant(instant)?;
 //! assert_eq!(civil_from_days(days)?, Date::new(2023, 5, 10));
 //! assert_eq!(weekday(days)?, Weekday::Wednesday);
+//! assert_eq!(week_label(days)?, "2023-W19-3");
 //!
 //! let refused = read_instant(b"2016-12-31T23:59:60.000Z");
 //! assert_eq!(refused, Err(Refusal::TimeOutOfRange));
@@ -46,7 +51,9 @@ mod labels;
 #[doc(hidden)]
 pub mod raw;
 mod refusal;
+mod text;
 mod transport;
+mod week;
 mod weekday;
 
 pub use calendar::{
@@ -55,9 +62,11 @@ pub use calendar::{
 pub use constants::{check_bound, first_difference, ClaimError, Constants, CLAIM_BOUNDS, SEARCH_ENDS};
 pub use instant::{day_of_instant, index_days, join_instant, split_instant, Fields, IndexError, INSTANTS};
 pub use labels::{
-    instant_label, position_label, read_cue, read_instant, read_position, write_instant, write_position, Cue,
-    InstantLabel, PositionLabel, INSTANT_LABEL_BYTES, POSITIONS, POSITION_LABEL_BYTES,
+    instant_label, position_label, read_cue, read_instant, read_position, read_week, week_label, write_instant,
+    write_position, write_week, Cue, InstantLabel, PositionLabel, WeekLabel, INSTANT_LABEL_BYTES, POSITIONS,
+    POSITION_LABEL_BYTES, WEEK_LABEL_BYTES, LABEL_YEARS,
 };
 pub use refusal::Refusal;
 pub use transport::{Clock, ClockPosition, CLOCK_POSITIONS, CLOCK_TICKS_PER_MILLISECOND, CLOCK_VALUES};
+pub use week::{days_from_week, week_from_days, WeekDate, WEEK_YEARS};
 pub use weekday::{weekday, Weekday};

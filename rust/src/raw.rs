@@ -2,7 +2,7 @@
 //! Every call returns a number from 0, or the refusal's number negated.
 #![allow(missing_docs)]
 
-use crate::{Cue, Date, Fields};
+use crate::{Cue, Date, Fields, WeekDate};
 
 /// A transport clock: `heard` is 0 where nothing has been heard yet, and `position` is then not looked at.
 #[derive(Clone, Copy, Debug, PartialEq, Eq)]
@@ -20,6 +20,9 @@ extern "C" {
     pub fn ovenquill_last_day_of_month(year: i64, month: i64) -> i64;
     pub fn ovenquill_day_of_year(year: i64, month: i64, day: i64) -> i64;
     pub fn ovenquill_add_days(year: i64, month: i64, day: i64, days: i64, date: *mut Date) -> i64;
+
+    pub fn ovenquill_week_from_days(days: i64, week: *mut WeekDate) -> i64;
+    pub fn ovenquill_days_from_week(year: i64, week: i64, weekday: i64, days: *mut i64) -> i64;
 
     pub fn ovenquill_day_of_instant(instant: i64, days: *mut i64) -> i64;
     pub fn ovenquill_split_instant(instant: i64, fields: *mut Fields) -> i64;
@@ -43,6 +46,8 @@ extern "C" {
 
     pub fn ovenquill_write_instant(instant: i64, out: *mut u8, length: usize) -> i64;
     pub fn ovenquill_read_instant(label: *const u8, length: usize, instant: *mut i64) -> i64;
+    pub fn ovenquill_write_week(days: i64, out: *mut u8, length: usize) -> i64;
+    pub fn ovenquill_read_week(label: *const u8, length: usize, days: *mut i64) -> i64;
     pub fn ovenquill_write_position(position: i64, out: *mut u8, length: usize) -> i64;
     pub fn ovenquill_read_position(text: *const u8, length: usize) -> i64;
     pub fn ovenquill_read_cue(line: *const u8, length: usize, cue: *mut Cue) -> i64;

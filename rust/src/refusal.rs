@@ -2,8 +2,10 @@
 
 use crate::calendar::{MONTHS, YEARS};
 use crate::instant::{DAY, HOUR, MINUTE, SECOND};
-use crate::labels::{INSTANT_LABEL_BYTES, POSITIONS};
+use crate::labels::{INSTANT_LABEL_BYTES, POSITIONS, WEEK_LABEL_BYTES, LABEL_YEARS};
 use crate::transport::{CLOCK_POSITIONS, CLOCK_VALUES};
+use crate::week::WEEK_YEARS;
+use crate::weekday::Weekday;
 use core::error::Error;
 use core::fmt;
 
@@ -86,15 +88,23 @@ macro_rules! refusals {
 }
 
 refusals! {
-    /// A year outside [`YEARS`].
-    YearOutOfRange = 1, ("year outside {}..{}", YEARS.start(), YEARS.end());
+    /// A year outside [`YEARS`], or a week year outside [`WEEK_YEARS`] or, in a label, outside [`LABEL_YEARS`].
+    YearOutOfRange = 1, (
+        "year outside {}..{}, or week year outside {}..{}, in a label {}..{}",
+        YEARS.start(),
+        YEARS.end(),
+        WEEK_YEARS.start(),
+        WEEK_YEARS.end(),
+        LABEL_YEARS.start(),
+        LABEL_YEARS.end()
+    );
     /// A month outside [`MONTHS`].
     MonthOutOfRange = 2, ("month outside {}..{}", MONTHS.start(), MONTHS.end());
     /// A day that its month does not have.
     DayOutOfRange = 3, ("day outside 1..length of that month");
-    /// A count outside [`DAYS`](crate::DAYS), an instant outside [`INSTANTS`](crate::INSTANTS), or a shifted date that is
-    /// outside the range of dates.
-    OutOfRange = 4, ("day count, instant or shifted date outside the range");
+    /// A count outside [`DAYS`](crate::DAYS), an instant outside [`INSTANTS`](crate::INSTANTS), or a shifted date or a week
+    /// date that is outside the range of dates.
+    OutOfRange = 4, ("day count, instant, shifted date or week date outside the range");
     /// An hour, minute, second or millisecond that no day has. Second 60 is one.
     TimeOutOfRange = 5, (
         "hour outside 0..{}, minute or second outside 0..{}, or millisecond outside 0..{}",
@@ -106,9 +116,10 @@ refusals! {
     PositionOutOfRange = 6, ("position below {} or above {}", POSITIONS.start(), POSITIONS.end());
     /// A buffer with fewer bytes than the label.
     BufferTooShort = 7, ("buffer shorter than the label");
-    /// A label of another length or shape than the writer's; but its letters may be small.
+    /// A label of another length or shape than the writer's; but its T and Z may be small.
     MalformedLabel = 8, (
-        "label not {INSTANT_LABEL_BYTES} bytes, a non-digit where a digit stands, or a wrong mark (T and Z may be small)"
+        "label not {INSTANT_LABEL_BYTES} bytes, of a week date not {WEEK_LABEL_BYTES}, a non-digit where a digit stands, \
+         or a wrong mark (T and Z may be small, W not)"
     );
     /// A constant outside [`Constants::LEAST`](crate::Constants::LEAST) and
     /// [`Constants::LARGEST`](crate::Constants::LARGEST), an end outside [`SEARCH_ENDS`](crate::SEARCH_ENDS) or a bound
@@ -134,6 +145,12 @@ refusals! {
     );
     /// An instant of an index ([`index_days`](crate::index_days)) is smaller than the one before it; equal ones are accepted.
     OutOfOrder = 15, ("index instant smaller than the one before it");
+    /// A week that its week year does not have, or a weekday outside 1 to 7.
+    WeekOutOfRange = 16, (
+        "week that its year does not have, or weekday outside {}..{}",
+        Weekday::Monday.number(),
+        Weekday::Sunday.number()
+    );
 }
 
 impl Error for Refusal {}
