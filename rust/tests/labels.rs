@@ -1,36 +1,22 @@
 //! Labels: the writers of instant and position labels against `write!` and `format!`, the reader against a checker that goes
 //! byte by byte (tests/support/plain.rs), all three against document 01's rows, small letters, and the labels that are held
-//! by value.
+//! by value. Week labels are tried here as text only, and for the rest in tests/weeks.rs.
 
 mod support;
 
 use ovenquill::{
-    instant_label, position_label, read_instant, write_instant, write_position, InstantLabel, PositionLabel, Refusal,
-    INSTANT_LABEL_BYTES, POSITIONS, POSITION_LABEL_BYTES,
+    instant_label, position_label, read_instant, week_label, write_instant, write_position, InstantLabel,
+    PositionLabel, Refusal, INSTANT_LABEL_BYTES, POSITIONS, POSITION_LABEL_BYTES,
 };
 use std::collections::HashSet;
-use support::answer::Answer::{self, Refused, Value};
-use support::answer::{answer, Refusing};
+use support::answer::answer;
+use support::answer::Answer::{Refused, Value};
 use support::plain::{
     self, DAY, FIRST_DAY, FIRST_INSTANT, FIRST_YEAR, LABEL_BYTES, LAST_DAY, LAST_INSTANT, LAST_POSITION, LAST_YEAR,
     POSITION_HOUR, POSITION_MINUTE, POSITION_SECOND, SECOND,
 };
 use support::random::Random;
-
-/// Writes to a buffer of that length among guard bytes and holds the answer and every byte to the plain writer's.
-fn try_writing<E: Refusing>(
-    ours: fn(i64, &mut [u8]) -> Result<usize, E>,
-    plain: fn(i64, &mut [u8]) -> Answer<usize>,
-    number: i64,
-    length: usize,
-) {
-    let fill = 0x80 | (length as u8); // no byte of a label
-    let mut result = Refused(0);
-    let bytes = support::with_guards(length, fill, |out| result = answer(ours(number, out)));
-    let mut expected = vec![fill; length];
-    assert_eq!(result, plain(number, &mut expected), "{number} in {length} bytes");
-    assert_eq!(bytes, expected, "{number} in {length} bytes");
-}
+use support::try_writing;
 
 /// Writes the label of an instant in the range, holds it to the plain one and reads it again.
 fn try_label(instant: i64) {
@@ -450,7 +436,7 @@ fn position_labels_by_value() {
     assert_eq!(PositionLabel::try_from(&b"\xff"[..]), Err(Refusal::MalformedTiming));
 }
 
-/// What both kinds of labels do as text: compare, show themselves and hash.
+/// What every kind of label does as text: it compares, shows itself and hashes.
 macro_rules! try_as_text {
     ($label:expr, $other:expr, $text:literal, $debug:literal) => {
         let (label, other) = ($label.unwrap(), $other.unwrap());
@@ -473,5 +459,6 @@ fn labels_as_text() {
         "1969-12-31T23:59:59.999Z",
         "InstantLabel(\"1969-12-31T23:59:59.999Z\")"
     );
+    try_as_text!(week_label(19487), week_label(0), "2023-W19-3", "WeekLabel(\"2023-W19-3\")");
     try_as_text!(position_label(4287767296), position_label(0), "1191:02:47.296", "PositionLabel(\"1191:02:47.296\")");
 }

@@ -3,7 +3,7 @@
 
 mod support;
 
-use ovenquill::{raw, Clock, Constants, Cue, Date, Fields};
+use ovenquill::{raw, Clock, Constants, Cue, Date, Fields, WeekDate};
 use std::fmt::Debug;
 use std::ptr;
 use support::answer::Answer::{self, Refused, RefusedAt, Value};
@@ -11,6 +11,7 @@ use support::plain::{
     self, FIRST_DAY, FIRST_INSTANT, FIRST_YEAR, HALF_WRAP, LARGEST, LAST_CLOCK_POSITION, LAST_DAY, LAST_INSTANT,
     LAST_POSITION, LAST_YEAR, SECOND, WRAP,
 };
+use support::plain_weeks::{self, FIRST_WEEK_YEAR, LAST_WEEK_YEAR, WEEK_LABEL_BYTES};
 use support::random::Random;
 use support::BAD_INSTANTS;
 
@@ -18,6 +19,7 @@ const GUARD: i64 = 0x5afe_c0de_5afe_c0de;
 /// What a place holds before a call.
 const BEFORE: i64 = -0x0123_4567_89ab_cdef;
 const DATE_BEFORE: Date = Date { year: BEFORE, month: BEFORE + 1, day: BEFORE + 2 };
+const WEEK_DATE_BEFORE: WeekDate = WeekDate { year: BEFORE, week: BEFORE + 1, weekday: BEFORE + 2 };
 const FIELDS_BEFORE: Fields = Fields {
     year: BEFORE,
     month: BEFORE + 1,
@@ -88,6 +90,9 @@ fn calls_about_counts() {
             refused => -refused_number(refused),
         };
         assert_eq!(unsafe { raw::ovenquill_weekday(days) }, number, "{days}");
+        try_place(plain_weeks::week_from_days(days), WEEK_DATE_BEFORE, |week| unsafe {
+            raw::ovenquill_week_from_days(days, week)
+        });
     }
 }
 
@@ -121,6 +126,26 @@ fn calls_about_dates() {
         let day_of_year = returned(plain::day_of_year(date));
         assert_eq!(unsafe { raw::ovenquill_day_of_year(year, month, day) }, day_of_year, "{date:?}");
     }
+}
+
+#[test]
+fn calls_about_week_dates() {
+    let mut random = Random::new(66);
+    let mut seen = [0; 4];
+    for _ in 0..300_000 {
+        let any_year = some(&mut random, FIRST_WEEK_YEAR, LAST_WEEK_YEAR);
+        let year = random.choose(&[any_year, any_year, FIRST_WEEK_YEAR, LAST_WEEK_YEAR]);
+        let [week, weekday] = [some(&mut random, 1, 53), some(&mut random, 1, 7)];
+        let days = plain_weeks::days_from_week(WeekDate { year, week, weekday });
+        try_place(days, BEFORE, |days| unsafe { raw::ovenquill_days_from_week(year, week, weekday, days) });
+        seen[match days {
+            Value(_) => 0,
+            Refused(1) => 1,
+            Refused(16) => 2,
+            _ => 3,
+        }] += 1;
+    }
+    assert!(seen.iter().all(|&times| times > 10_000), "accepted, refused by 1, by 16 and by 4: {seen:?}");
 }
 
 #[test]
@@ -180,25 +205,54 @@ fn the_index_writes_a_place_only_for_a_bad_instant_or_a_fall() {
     assert!(seen.iter().all(|&times| times > 10_000), "accepted, refused by 12, by 4 and by 15: {seen:?}");
 }
 
+/// The label as it is, with a byte changed to one of those, cut short or made long.
+fn some_label(random: &mut Random, label: &[u8], bytes: &[u8]) -> Vec<u8> {
+    let mut label = label.to_vec();
+    if random.within(0, 1) == 0 {
+        let place = random.within(0, label.len() as i64 - 1) as usize;
+        label[place] = random.choose(bytes);
+    }
+    if random.within(0, 9) == 0 {
+        label.pop();
+    }
+    if random.within(0, 99) == 0 {
+        label.resize(random.choose(&support::LONG), b'0');
+    }
+    label
+}
+
 #[test]
-fn the_reader() {
+fn the_reader_of_instant_labels() {
     let mut random = Random::new(28);
     for _ in 0..300_000 {
-        let mut label = plain::instant_label(random.within(FIRST_INSTANT, LAST_INSTANT)).to_vec();
-        if random.within(0, 1) == 0 {
-            let place = random.within(0, label.len() as i64 - 1) as usize;
-            label[place] = random.choose(b"0123456789-:.TZ");
-        }
-        if random.within(0, 9) == 0 {
-            label.pop();
-        }
-        if random.within(0, 99) == 0 {
-            label.resize(random.choose(&support::LONG), b'0');
-        }
+        let label = plain::instant_label(random.within(FIRST_INSTANT, LAST_INSTANT));
+        let label = some_label(&mut random, &label, b"0123456789-:.TZ");
         try_place(plain::read_instant(&label), BEFORE, |instant| unsafe {
             raw::ovenquill_read_instant(label.as_ptr(), label.len(), instant)
         });
     }
+}
+
+#[test]
+fn the_reader_of_week_labels() {
+    let mut random = Random::new(67);
+    let mut seen = [0; 4];
+    for _ in 0..300_000 {
+        let [any_year, any_week] = [random.within(0, LAST_WEEK_YEAR), random.within(0, 99)];
+        let year = random.choose(&[any_year, LAST_WEEK_YEAR]);
+        let week = random.choose(&[any_week, 1, 52, 53]);
+        let label = plain_weeks::week_label(WeekDate { year, week, weekday: random.within(1, 7) });
+        let label = some_label(&mut random, &label, b"0123456789-W");
+        let days = plain_weeks::read_week(&label);
+        try_place(days, BEFORE, |days| unsafe { raw::ovenquill_read_week(label.as_ptr(), label.len(), days) });
+        seen[match days {
+            Value(_) => 0,
+            Refused(8) => 1,
+            Refused(16) => 2,
+            _ => 3,
+        }] += 1;
+    }
+    assert!(seen.iter().all(|&times| times > 5_000), "read, refused by 8, by 16 and by 4: {seen:?}");
 }
 
 #[test]
@@ -340,20 +394,30 @@ fn a_list_of_values_of_a_clock() {
 
 #[test]
 fn writers() {
-    for (number, length, instant_returns, position_returns) in [
-        (0, plain::LABEL_BYTES, plain::LABEL_BYTES as i64, 12),
-        (0, 12, -7, 12),
-        (0, 11, -7, -7),
-        (-1, 11, -7, -6),
-        (i64::MAX, 40, -4, -6),
-        (i64::MIN, 0, -4, -6),
+    for (number, length, instant_returns, week_returns, position_returns) in [
+        (0, plain::LABEL_BYTES, plain::LABEL_BYTES as i64, WEEK_LABEL_BYTES as i64, 12),
+        (0, 12, -7, WEEK_LABEL_BYTES as i64, 12),
+        (0, 11, -7, WEEK_LABEL_BYTES as i64, -7),
+        (0, WEEK_LABEL_BYTES, -7, WEEK_LABEL_BYTES as i64, -7),
+        (0, WEEK_LABEL_BYTES - 1, -7, -7, -7),
+        (-1, 11, -7, WEEK_LABEL_BYTES as i64, -6),
+        (FIRST_DAY, WEEK_LABEL_BYTES, -7, -1, -6),
+        (FIRST_DAY + 1, 0, -7, -1, -6),
+        (i64::MAX, 40, -4, -4, -6),
+        (i64::MIN, 0, -4, -4, -6),
     ] {
-        let mut out = vec![b'?'; length];
-        assert_eq!(unsafe { raw::ovenquill_write_instant(number, out.as_mut_ptr(), length) }, instant_returns);
-        assert_eq!(out.iter().all(|&byte| byte == b'?'), instant_returns < 0);
-        let mut out = vec![b'?'; length];
-        assert_eq!(unsafe { raw::ovenquill_write_position(number, out.as_mut_ptr(), length) }, position_returns);
-        assert_eq!(out.iter().all(|&byte| byte == b'?'), position_returns < 0);
+        for (writer, returns) in [
+            (raw::ovenquill_write_instant as unsafe extern "C" fn(i64, *mut u8, usize) -> i64, instant_returns),
+            (raw::ovenquill_write_week, week_returns),
+            (raw::ovenquill_write_position, position_returns),
+        ] {
+            let mut out = vec![b'?'; length];
+            assert_eq!(unsafe { writer(number, out.as_mut_ptr(), length) }, returns, "{number} in {length} bytes");
+            // What is written has no question mark, and behind it nothing is written.
+            let written = out.iter().take_while(|&&byte| byte != b'?').count();
+            assert_eq!(written as i64, returns.max(0), "{number} in {length} bytes");
+            assert!(out[written..].iter().all(|&byte| byte == b'?'), "{number} in {length} bytes");
+        }
     }
 }
 
@@ -361,8 +425,11 @@ fn writers() {
 fn no_slice_at_all() {
     // As C may lend it: null, with the length 0.
     assert_eq!(unsafe { raw::ovenquill_write_instant(0, ptr::null_mut(), 0) }, -7);
+    assert_eq!(unsafe { raw::ovenquill_write_week(0, ptr::null_mut(), 0) }, -7);
     assert_eq!(unsafe { raw::ovenquill_write_position(0, ptr::null_mut(), 0) }, -7);
     let read = lend(BEFORE, |instant| unsafe { raw::ovenquill_read_instant(ptr::null(), 0, instant) });
+    assert_eq!(read, (-8, BEFORE));
+    let read = lend(BEFORE, |days| unsafe { raw::ovenquill_read_week(ptr::null(), 0, days) });
     assert_eq!(read, (-8, BEFORE));
     assert_eq!(unsafe { raw::ovenquill_read_position(ptr::null(), 0) }, -13);
     let read = lend(CUE_BEFORE, |cue| unsafe { raw::ovenquill_read_cue(ptr::null(), 0, cue) });

@@ -1,15 +1,16 @@
 //! The refusals: their numbers and words, and a call that gives each, against document 01's table, which change requests One,
-//! Three, Five and Six change.
+//! Three, Five, Six and Seven change.
 
 mod support;
 
 use ovenquill::{
-    add_days, check_bound, civil_from_days, day_of_instant, days_from_civil, first_difference, index_days, is_leap,
-    join_instant, last_day_of_month, read_cue, read_instant, read_position, weekday, write_instant, write_position,
-    ClaimError, Clock, Constants, Date, Fields, IndexError, Refusal,
+    add_days, check_bound, civil_from_days, day_of_instant, days_from_civil, days_from_week, first_difference,
+    index_days, is_leap, join_instant, last_day_of_month, read_cue, read_instant, read_position, read_week,
+    week_from_days, weekday, write_instant, write_position, write_week, ClaimError, Clock, Constants, Date, Fields,
+    IndexError, Refusal, WeekDate,
 };
 use std::error::Error;
-use support::plain::{FIRST_YEAR, LAST_YEAR};
+use support::plain::{FIRST_DAY, FIRST_YEAR, LAST_YEAR};
 
 /// Each refusal with document 01's number.
 const TABLE: &[(i64, Refusal)] = &[
@@ -28,6 +29,7 @@ const TABLE: &[(i64, Refusal)] = &[
     (13, Refusal::MalformedTiming),
     (14, Refusal::ClockOutOfRange),
     (15, Refusal::OutOfOrder),
+    (16, Refusal::WeekOutOfRange),
 ];
 
 fn numbers() -> Vec<i64> {
@@ -83,6 +85,8 @@ fn each_refusal_is_given() {
                 is_leap(FIRST_YEAR - 1).unwrap_err(),
                 last_day_of_month(LAST_YEAR + 1, 1).unwrap_err(),
                 join_instant(Fields { year: LAST_YEAR + 1, ..NOON }).unwrap_err(),
+                days_from_week(WeekDate::new(-2, 1, 1)).unwrap_err(),
+                write_week(FIRST_DAY, &mut []).unwrap_err(),
             ],
         ),
         (2, vec![last_day_of_month(2023, 0).unwrap_err(), read_instant(b"2023-13-01T00:00:00.000Z").unwrap_err()]),
@@ -96,6 +100,10 @@ fn each_refusal_is_given() {
                 day_of_instant(i64::MIN).unwrap_err(),
                 index_days(&[i64::MIN], &mut [0]).unwrap_err().into(),
                 write_instant(i64::MAX, &mut []).unwrap_err(),
+                week_from_days(i64::MIN).unwrap_err(),
+                days_from_week(WeekDate::new(-1, 1, 1)).unwrap_err(),
+                write_week(i64::MAX, &mut []).unwrap_err(),
+                read_week(b"9999-W52-7").unwrap_err(),
             ],
         ),
         (5, vec![join_instant(Fields { second: 60, ..NOON }).unwrap_err()]),
@@ -107,8 +115,15 @@ fn each_refusal_is_given() {
                 read_cue(b"00:01.000 --> 100000:00:00.000").unwrap_err(),
             ],
         ),
-        (7, vec![write_instant(0, &mut []).unwrap_err(), write_position(0, &mut []).unwrap_err()]),
-        (8, vec![read_instant(b"").unwrap_err()]),
+        (
+            7,
+            vec![
+                write_instant(0, &mut []).unwrap_err(),
+                write_week(0, &mut []).unwrap_err(),
+                write_position(0, &mut []).unwrap_err(),
+            ],
+        ),
+        (8, vec![read_instant(b"").unwrap_err(), read_week(b"").unwrap_err()]),
         (9, vec![first_difference(CONSTANTS, -1).unwrap_err(), check_bound(CONSTANTS, -1).unwrap_err().into()]),
         (10, vec![check_bound(CONSTANTS, 100).unwrap_err().into()]),
         (11, vec![check_bound(CONSTANTS, 10).unwrap_err().into()]),
@@ -131,6 +146,15 @@ fn each_refusal_is_given() {
             ],
         ),
         (15, vec![index_days(&[0, -1], &mut [0; 2]).unwrap_err().into()]),
+        (
+            16,
+            vec![
+                days_from_week(WeekDate::new(2023, 53, 1)).unwrap_err(),
+                days_from_week(WeekDate::new(2023, 1, 8)).unwrap_err(),
+                read_week(b"2023-W00-1").unwrap_err(),
+                read_week(b"2023-W01-0").unwrap_err(),
+            ],
+        ),
     ];
     assert_eq!(given.iter().map(|row| row.0).collect::<Vec<_>>(), numbers());
     for (number, refusals) in given {

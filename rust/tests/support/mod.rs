@@ -4,7 +4,13 @@
 
 pub mod answer;
 pub mod plain;
+pub mod plain_weeks;
 pub mod random;
+
+use answer::Answer::{self, Refused};
+use answer::{answer, Refusing};
+use plain::LABEL_BYTES;
+use plain_weeks::WEEK_LABEL_BYTES;
 
 /// The numbers within 2 of each power of two and its negative, of 0 and of the ends of the signed 64-bit numbers.
 pub fn powers() -> Vec<i64> {
@@ -23,8 +29,9 @@ pub fn powers() -> Vec<i64> {
 pub const BAD_INSTANTS: [i64; 4] = [plain::FIRST_INSTANT - 1, plain::LAST_INSTANT + 1, i64::MIN, i64::MAX];
 
 /// Lengths of buffers far above a label's, on either side of what a byte holds and, behind the last whole 256 or 65536 bytes,
-/// of an instant label's own length.
-pub const LONG: [usize; 7] = [41, 64, 255, 256, 256 + plain::LABEL_BYTES, 4096, 65536 + plain::LABEL_BYTES];
+/// of an instant label's and a week label's own length.
+pub const LONG: [usize; 9] =
+    [41, 64, 255, 256, 256 + WEEK_LABEL_BYTES, 256 + LABEL_BYTES, 4096, 65536 + WEEK_LABEL_BYTES, 65536 + LABEL_BYTES];
 
 /// Lends the call the middle of a buffer and answers the middle as it is afterwards. The bytes on either side, 48 or a few
 /// more, must stay as they were.
@@ -39,4 +46,19 @@ pub fn with_guards(length: usize, fill: u8, call: impl FnOnce(&mut [u8])) -> Vec
         assert!(middle.contains(&place) || byte == guard(place), "byte {place} is outside {middle:?} and changed");
     }
     bytes[middle].to_vec()
+}
+
+/// Writes to a buffer of that length among guard bytes and holds the answer and every byte to the plain writer's.
+pub fn try_writing<E: Refusing>(
+    ours: fn(i64, &mut [u8]) -> Result<usize, E>,
+    plain: fn(i64, &mut [u8]) -> Answer<usize>,
+    number: i64,
+    length: usize,
+) {
+    let fill = 0x80 | (length as u8); // no byte of a label
+    let mut result = Refused(0);
+    let bytes = with_guards(length, fill, |out| result = answer(ours(number, out)));
+    let mut expected = vec![fill; length];
+    assert_eq!(result, plain(number, &mut expected), "{number} in {length} bytes");
+    assert_eq!(bytes, expected, "{number} in {length} bytes");
 }

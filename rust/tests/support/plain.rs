@@ -2,7 +2,8 @@
 //! the library but the types of dates, fields, cues, constants and clocks. The calendar is a table of every day, built by stepping
 //! from each day to the next; instants go by `div_euclid` and `rem_euclid`, an index by a search for a bad instant and then one for
 //! a fall, labels by `write!`, the reader of instants byte by byte, timestamps and cue lines by splitting them at their marks and
-//! blanks, the constants by trying every n, and the clock by trying every step that may fit.
+//! blanks, the constants by trying every n, and the clock by trying every step that may fit. Change request Seven is in
+//! plain_weeks.rs.
 
 use super::answer::Answer::{self, Refused, RefusedAt, Value};
 use ovenquill::{Clock, ClockPosition, Constants, Cue, Date, Fields};
@@ -60,12 +61,12 @@ pub const TICKS_PER_MILLISECOND: i64 = 90;
 
 /// A day as the table has it; `in_week` is the place of its weekday in the list of weekdays.
 #[derive(Clone, Copy)]
-struct Day {
-    year: i16,
-    month: u8,
-    day: u8,
-    in_week: u8,
-    day_of_year: u16,
+pub struct Day {
+    pub year: i16,
+    pub month: u8,
+    pub day: u8,
+    pub in_week: u8,
+    pub day_of_year: u16,
 }
 
 struct Calendar {
@@ -75,7 +76,7 @@ struct Calendar {
     months: Vec<i64>,
 }
 
-fn leap(year: i64) -> bool {
+pub fn leap(year: i64) -> bool {
     year % 4 == 0 && !(year % 100 == 0 && year % 400 != 0)
 }
 
@@ -85,7 +86,7 @@ fn length(year: i64, month: i64) -> i64 {
 }
 
 /// The day after.
-fn next(today: Day) -> Day {
+pub fn next(today: Day) -> Day {
     let in_week = (today.in_week + 1) % 7;
     if i64::from(today.day) < length(today.year.into(), today.month.into()) {
         Day { day: today.day + 1, in_week, day_of_year: today.day_of_year + 1, ..today }
@@ -284,7 +285,7 @@ pub fn position_label(position: i64) -> String {
 }
 
 /// Writes a label to the front of a buffer, if it is long enough.
-fn put(label: &[u8], out: &mut [u8]) -> Answer<usize> {
+pub fn put(label: &[u8], out: &mut [u8]) -> Answer<usize> {
     if out.len() < label.len() {
         return Refused(7);
     }
