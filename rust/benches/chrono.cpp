@@ -13,6 +13,7 @@
 using namespace std::chrono;
 
 static constexpr int64_t first_year = 0, last_year = 9999;
+static constexpr int64_t first_week_year = -1, last_week_year = 9999;
 static constexpr sys_days first_day{year{first_year} / January / 1}, last_day{year{last_year} / December / 31};
 static constexpr int64_t first_count = first_day.time_since_epoch().count();
 static constexpr int64_t last_count = last_day.time_since_epoch().count();
@@ -24,6 +25,10 @@ static constexpr int64_t last_instant = unit{last_day.time_since_epoch() + days{
 
 struct date_answer {
     int64_t year, month, day;
+};
+
+struct week_answer {
+    int64_t year, week, weekday;
 };
 
 struct fields_answer {
@@ -131,6 +136,47 @@ extern "C" int64_t chrono_add_days(int64_t y, int64_t m, int64_t d, int64_t shif
         return -4;
     }
     *shifted = answered(year_month_day{day_at(count)});
+    return 0;
+}
+
+extern "C" int64_t chrono_week_from_days(int64_t count, week_answer *week)
+{
+    if (outside(count, first_count, last_count)) {
+        return -4;
+    }
+    const sys_days day = day_at(count);
+    const weekday of_day{day};
+    const sys_days thursday = day - (of_day - Monday) + (Thursday - Monday);
+    const year y = year_month_day{thursday}.year();
+    *week = {static_cast<int>(y), (thursday - sys_days{y / January / 1}) / weeks{1} + 1, of_day.iso_encoding()};
+    return 0;
+}
+
+// The Monday of a year's week 1, in which 4 January lies.
+static inline sys_days first_monday(year y)
+{
+    const sys_days in_week_1{y / January / 4};
+    return in_week_1 - (weekday{in_week_1} - Monday);
+}
+
+extern "C" int64_t chrono_days_from_week(int64_t y, int64_t w, int64_t d, int64_t *count)
+{
+    if (outside(y, first_week_year, last_week_year)) {
+        return -1;
+    }
+    if (outside(w, 1, 53) || outside(d, 1, 7)) {
+        return -16;
+    }
+    const year week_year{static_cast<int>(y)};
+    const sys_days monday = first_monday(week_year) + weeks{w - 1};
+    if (w == 53 && monday == first_monday(week_year + years{1})) {
+        return -16;
+    }
+    const int64_t reached = (monday + days{d - 1}).time_since_epoch().count();
+    if (outside(reached, first_count, last_count)) {
+        return -4;
+    }
+    *count = reached;
     return 0;
 }
 

@@ -13,12 +13,12 @@ mod rivals;
 
 use measure::call::{
     CueReader, Eight, EightTo, Follower, FourTo, GoingOn, Index, ListFollower, One, OneTo, PositionReader, Reader,
-    SevenTo, Text, Three, ThreeTo, Two, Waiting, Writer, MOST_BLANKS,
+    SevenTo, Text, Three, ThreeTo, Two, Waiting, WeekReader, Writer, MOST_BLANKS,
 };
 use measure::{best_times, line, percentile, shown, Inputs, PARTS, ROUNDS};
 use ovenquill::{
-    raw, Constants, Date, Fields, CLAIM_BOUNDS, CLOCK_POSITIONS, CLOCK_VALUES, DAYS, INSTANTS, INSTANT_LABEL_BYTES,
-    POSITIONS, SEARCH_ENDS, YEARS,
+    raw, Constants, Date, Fields, WeekDate, CLAIM_BOUNDS, CLOCK_POSITIONS, CLOCK_VALUES, DAYS, INSTANTS,
+    INSTANT_LABEL_BYTES, POSITIONS, SEARCH_ENDS, WEEK_LABEL_BYTES, YEARS,
 };
 use random::Random;
 use rivals::calendar::{BY_DIVISIONS, BY_SHIFTS};
@@ -29,7 +29,7 @@ use rivals::labels::{BY_BYTES, BY_CENTURY, BY_WORDS};
 #[cfg(lengths)]
 use rivals::lengths;
 use rivals::transport::{BY_COMPARES, BY_REMAINDER, BY_VALUE_BEFORE};
-use rivals::{calendar, constants, instants, labels, transport};
+use rivals::{calendar, constants, instants, labels, transport, weeks};
 
 /// The inputs of most lines.
 const INPUTS: usize = 131072;
@@ -46,6 +46,7 @@ fn main() {
     println!("The walk of the residues takes time linear in d, ours does not: its lines compare two algorithms.");
     heading();
     calendar_lines();
+    week_lines();
     instant_lines();
     label_lines();
     timing_lines();
@@ -70,6 +71,8 @@ const CHRONO: &str = "libstdc++ chrono";
 const RUST: &str = "plain Rust";
 const BY_HAND: &str = "hand-written Rust";
 const STEPS: &str = "Rust, the library's steps";
+const TABLE: &str = "Rust, table of two digits";
+const DIGITS: &str = "Rust, digit by digit";
 
 /// As many numbers from a range as a line has inputs.
 fn numbers(random: &mut Random, range: std::ops::RangeInclusive<i64>) -> Vec<i64> {
@@ -220,6 +223,63 @@ fn calendar_lines() {
     );
 }
 
+// Week dates and their labels
+
+fn week_dates_of(counts: &[[i64; 1]]) -> Vec<[i64; 3]> {
+    let date_of = |&[days]: &[i64; 1]| {
+        let WeekDate { year, week, weekday } = ovenquill::week_from_days(days).expect("a count in the range");
+        [year, week, weekday]
+    };
+    counts.iter().map(date_of).collect()
+}
+
+fn week_labels_of(counts: &[i64]) -> Vec<[u8; WEEK_LABEL_BYTES]> {
+    let label_of = |&days: &i64| {
+        let mut label = [0; WEEK_LABEL_BYTES];
+        ovenquill::write_week(days, &mut label).expect("a count that has a label");
+        label
+    };
+    counts.iter().map(label_of).collect()
+}
+
+fn week_lines() {
+    let mut random = Random::new(110);
+    let counts = some_counts(&mut random);
+    line::<OneTo<WeekDate>>(
+        "days to week date",
+        &Inputs::of(&counts),
+        raw::ovenquill_week_from_days,
+        &[
+            (BY_HAND, weeks::week_from_days),
+            #[cfg(chrono)]
+            (CHRONO, chrono::chrono_week_from_days),
+        ],
+    );
+    line::<ThreeTo<i64>>(
+        "week date to days",
+        &Inputs::of(&week_dates_of(&counts)),
+        raw::ovenquill_days_from_week,
+        &[
+            (BY_HAND, weeks::days_from_week),
+            #[cfg(chrono)]
+            (CHRONO, chrono::chrono_days_from_week),
+        ],
+    );
+    let list = numbers(&mut random, weeks::FIRST_LABEL_DAY..=*DAYS.end());
+    line::<Writer>(
+        "write a week label",
+        &Inputs::of(&list),
+        raw::ovenquill_write_week,
+        &[(TABLE, weeks::write_week::<true>), (DIGITS, weeks::write_week::<false>)],
+    );
+    line(
+        "read a week label",
+        &Inputs::of(&week_labels_of(&list)),
+        WeekReader(raw::ovenquill_read_week),
+        &[("Rust, eight bytes at a time", WeekReader(weeks::read_week))],
+    );
+}
+
 // Instants
 
 fn fields_of(instants: &[[i64; 1]]) -> Vec<[i64; 7]> {
@@ -304,12 +364,11 @@ fn label_lines() {
     let short = numbers(&mut random, *POSITIONS.start()..=100 * labels::POSITION_HOUR - 1);
     let long: Vec<i64> = (0..INPUTS).map(|_| random.of_any_size(*POSITIONS.start(), *POSITIONS.end())).collect();
 
-    let (table, digits) = ("Rust, table of two digits", "Rust, digit by digit");
     line::<Writer>(
         "write an instant label",
         &Inputs::of(&list),
         raw::ovenquill_write_instant,
-        &[(table, labels::write_instant::<true>), (digits, labels::write_instant::<false>)],
+        &[(TABLE, labels::write_instant::<true>), (DIGITS, labels::write_instant::<false>)],
     );
     for (what, inputs) in
         [("write a position label, below 100 hours", &short), ("write a position label, of any size", &long)]
@@ -318,7 +377,7 @@ fn label_lines() {
             what,
             &Inputs::of(inputs),
             raw::ovenquill_write_position,
-            &[(table, labels::write_position::<true>), (digits, labels::write_position::<false>)],
+            &[(TABLE, labels::write_position::<true>), (DIGITS, labels::write_position::<false>)],
         );
     }
     for (what, inputs) in [("read an instant label", &right), ("read a label, 1 in 8 damaged", &damaged)] {

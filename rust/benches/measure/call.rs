@@ -1,7 +1,7 @@
 //! The shapes of the C calls, so that a line can be measured and compared whatever its call takes and writes.
 
 use ovenquill::raw::Clock;
-use ovenquill::{Cue, Date, Fields, INSTANT_LABEL_BYTES, POSITION_LABEL_BYTES};
+use ovenquill::{Cue, Date, Fields, WeekDate, INSTANT_LABEL_BYTES, POSITION_LABEL_BYTES, WEEK_LABEL_BYTES};
 use std::fmt::Debug;
 
 /// A C call, ours or a rival's.
@@ -43,6 +43,14 @@ impl Place for Date {
 
     fn sum(&self) -> i64 {
         self.year + self.month + self.day
+    }
+}
+
+impl Place for WeekDate {
+    const CLEARED: WeekDate = WeekDate::new(CLEARED, CLEARED, CLEARED);
+
+    fn sum(&self) -> i64 {
+        self.year + self.week + self.weekday
     }
 }
 
@@ -196,6 +204,28 @@ impl Call for Reader {
     fn call(self, label: &Self::Input, lent: &mut i64) -> i64 {
         // SAFETY: the pointer and the length are those of the label, and the place is ours to lend.
         unsafe { self(label.as_ptr(), label.len(), lent) }
+    }
+
+    fn sum(lent: &i64) -> i64 {
+        *lent
+    }
+}
+
+/// The same call of a week label.
+#[derive(Clone, Copy)]
+pub struct WeekReader(pub Reader);
+
+impl Call for WeekReader {
+    type Input = [u8; WEEK_LABEL_BYTES];
+    type Lent = i64;
+
+    fn cleared(_: &Self::Input) -> i64 {
+        CLEARED
+    }
+
+    fn call(self, label: &Self::Input, lent: &mut i64) -> i64 {
+        // SAFETY: the pointer and the length are those of the label, and the place is ours to lend.
+        unsafe { self.0(label.as_ptr(), label.len(), lent) }
     }
 
     fn sum(lent: &i64) -> i64 {

@@ -112,7 +112,7 @@ pub fn checked_date(year: i64, month: i64, day: i64) -> Result<Parts, i64> {
 
 /// The count, or refusal 4.
 #[inline(always)]
-fn checked_count(days: i64) -> Result<i64, i64> {
+pub fn checked_count(days: i64) -> Result<i64, i64> {
     if (FIRST_DAY..=LAST_DAY).contains(&days) {
         Ok(days)
     } else {

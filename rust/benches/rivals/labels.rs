@@ -18,7 +18,7 @@ static PAIRS: [[u8; 2]; 100] = {
 
 /// Two digits of a number below 100.
 #[inline(always)]
-unsafe fn put_pair<const TABLE: bool>(out: *mut u8, n: u32) {
+pub unsafe fn put_pair<const TABLE: bool>(out: *mut u8, n: u32) {
     if TABLE {
         out.cast::<[u8; 2]>().write(*PAIRS.get_unchecked(n as usize));
     } else {

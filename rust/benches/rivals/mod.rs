@@ -10,6 +10,7 @@ pub mod labels;
 #[cfg(lengths)]
 pub mod lengths;
 pub mod transport;
+pub mod weeks;
 
 /// What a rival returns that writes its answer to a place: 0, or the refusal negated, and then the place is unchanged.
 #[inline(always)]
