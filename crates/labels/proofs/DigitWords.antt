@@ -27,7 +27,7 @@ module _ (n : ℕ) (h : n < 10000) where
   both-placed : n % 100 * 65536 + n / 100 ≡ placed two-pairs
   both-placed = omega arith
 
-  both-text : text two-pairs ≡ digits n 4
+  pub both-text : text two-pairs ≡ digits n 4
   both-text =
       let a : n / 100 / 10 % 10 ≡ n / 10 / 10 / 10 % 10 = rw (place-1000 n) (omega arith) in
       let b : n / 100 % 10 ≡ n / 10 / 10 % 10 = rw (place-100 n) in
@@ -43,35 +43,6 @@ module _ (n : ℕ) (h : n < 10000) where
 
   pub four-stored : {r : ℕ} → r ≡ word (digits n 4) → bytesOf 4 r ≡ digits n 4
   four-stored e = all-bytes (digits n 4) e (omega arith, (omega arith, (omega arith, (omega arith, tt)))) refl
-
--- four digits, two marks and two digits
-module _ (n x y m : ℕ) (hn : n < 10000) (hm : m < 100) where
-  abbrev four-cells : List Cell
-  four-cells = pair (n / 100) ∷ pair (n % 100) ∷ mark x ∷ mark y ∷ pair m ∷ []
-
-  four-placed : m * 281474976710656 + (n % 100 * 65536 + n / 100) ≡ placed four-cells
-  four-placed = omega arith
-
-  four-zeroed : y * 1099511627776 + x * 4294967296 + 3472275313511116848 ≡ zeroed four-cells
-  four-zeroed = omega arith
-
-  four-text : text four-cells ≡ digits n 4 ++ x ∷ y ∷ digits m 2
-  four-text = ap (λ l. l ++ x ∷ y ∷ digits m 2) (both-text n hn)
-
-  pub four-pair-small :
-      2559 * bitAnd ((m * 281474976710656 + (n % 100 * 65536 + n / 100)) * 103 / 1024) 4222124651642895 ≤ 256 * (m * 281474976710656 + (n % 100 * 65536 + n / 100))
-  four-pair-small = tens-small four-cells (omega arith, (omega arith, (hm, tt))) four-placed
-
-  pub four-pair-digits :
-      256 * (m * 281474976710656 + (n % 100 * 65536 + n / 100)) - 2559 * bitAnd ((m * 281474976710656 + (n % 100 * 65536 + n / 100)) * 103 / 1024) 4222124651642895
-      + (y * 1099511627776 + x * 4294967296 + 3472275313511116848) ≡ word (digits n 4 ++ x ∷ y ∷ digits m 2)
-  four-pair-digits = digits-of four-cells (omega arith, (omega arith, (hm, tt))) four-placed four-zeroed ∙ ap word four-text
-
-  pub four-pair-stored :
-      x ≤ 255 → y ≤ 255 → {r : ℕ} → r ≡ word (digits n 4 ++ x ∷ y ∷ digits m 2) → bytesOf 8 r ≡ digits n 4 ++ x ∷ y ∷ digits m 2
-  four-pair-stored hx hy e =
-      all-bytes (digits n 4 ++ x ∷ y ∷ digits m 2) e
-      (omega arith, (omega arith, (omega arith, (omega arith, (hx, (hy, (omega arith, (omega arith, tt)))))))) refl
 
 pub four-below : (n : ℕ) {r : ℕ} → r ≡ word (digits n 4) → r < 2 ^ 32
 four-below n e = omega (arith, e)

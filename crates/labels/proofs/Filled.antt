@@ -6,7 +6,9 @@ use native.Mathlib.Nat.{zero-add}
 use native.Mathlib.Omega.{arith}
 use lib.ListN.{length, set, take, drop, length-append}
 use lib.Seq.{sets, length-sets, sets-eq, drop-drop, take-append-seam, drop-append-add}
+use Rattle.labels.specs.Words.{partOf}
 use Rattle.labels.specs.Filled.{filled, Begins}
+use Rattle.labels.proofs.Words.{part-length, part-two}
 
 pub filled-length : (at : ℕ) (text buffer : List ℕ) → length (filled at text buffer) ≡ length buffer
 unfolding filled
@@ -32,6 +34,15 @@ pub filled-then :
     {k : ℕ} (at : ℕ) (a b before : List ℕ) {between after : List ℕ} → between ≡ filled at a before → at + length a ≡ k → after ≡ filled k b between →
     after ≡ filled at (a ++ b) before
 filled-then {k} at a b before e h f = f ∙ ap (filled k b) e ∙ filled-more at a b before h
+
+-- a part of a text behind the part before it
+pub filled-part :
+    (text : List ℕ) (at count more : ℕ) {k n : ℕ} (before : List ℕ) {between after : List ℕ} → between ≡ filled at (partOf at count text) before →
+    at + count ≡ k → k ≤ length text → count + more ≡ n → after ≡ filled k (partOf k more text) between → after ≡ filled at (partOf at n text) before
+filled-part text at count more {k} before {between} e h l n f =
+    let f′ = f ∙ ap (λ k′. filled k (partOf k′ more text) between) (sym h) in
+    filled-then at (partOf at count text) (partOf (at + count) more text) before e (ap (λ m. at + m) (part-length at count text (omega arith)) ∙ h) f′
+    ∙ ap (λ l. filled at l before) (sym (part-two at count more text) ∙ ap (λ n. partOf at n text) n)
 
 -- a byte behind a piece
 pub filled-byte : {k : ℕ} (at : ℕ) (a : List ℕ) (byte : ℕ) (buffer : List ℕ) → at + length a ≡ k → set (filled at a buffer) k byte ≡ filled at (a ++ byte ∷ []) buffer

@@ -1,13 +1,13 @@
 -- Week labels: what the code writes is the label, and what it reads are the label's numbers.
 use Prim.Native.Nat.{ℕ, _+_, _-_, _*_, _/_, _%_, _≤_, _<_, _^_}
 use mathlib.Core.Path.{_≡_, refl, sym, ap, ap₂, _∙_, subst}
-use mathlib.Core.Bool.{Bool, true, false, cond, _&&_}
+use mathlib.Core.Bool.{Bool, false, cond, _&&_}
 use mathlib.Core.List.{List, [], _∷_, _++_}
 use native.Mathlib.Omega.{arith}
 use lib.IntN.{ℤ, pos, natAbs}
-use lib.ListN.{length, getD, take, drop, length-drop}
+use lib.ListN.{length, take, drop, length-drop}
 use lib.Seq.{take-all, drop-cons}
-use Rattle.refusal.specs.Outcome.{Outcome, value, refused}
+use Rattle.refusal.specs.Outcome.{value, refused}
 use Rattle.refusal.proofs.Outcomes.{passes, same-value}
 use Rattle.numbers.specs.Range.{outside}
 use Rattle.numbers.proofs.Between.{natural-within, inside-pos}
@@ -19,11 +19,12 @@ use Rattle.week.proofs.Laws.{week-date-is-right}
 use Rattle.labels.specs.Digits.{digits, number, numberAt, fits}
 use Rattle.labels.specs.Rfc3339.{dash}
 use Rattle.labels.specs.IsoWeek.{letterW, weekLength, weekText, weekShape, readNumbers, readWeekAnswer}
-use Rattle.labels.specs.Words.{word, bytesOf, partOf, pairOf}
+use Rattle.labels.specs.Words.{partOf, pairOf}
 use Rattle.labels.specs.Filled.{filled}
+use Rattle.labels.specs.WeekPieces.{pieces}
 use Rattle.labels.specs.Parts.{HasRoom}
 use Rattle.labels.proofs.Words.{part-length, part-four}
-use Rattle.labels.proofs.DigitWords.{four-pair-stored}
+use Rattle.labels.proofs.DigitWords.{both-text}
 use Rattle.labels.proofs.Filled.{filled-then}
 use Rattle.labels.proofs.Shapes.{uneven, fits-overlap}
 use Rattle.labels.proofs.Gaps.{all-near}
@@ -31,17 +32,17 @@ use Rattle.labels.proofs.ReadValues.{ValuesRead, number-four, part-numb
 
 -- ---- written
 
--- the label from its two pieces
+-- the label from its front and its end
 pub week-filled :
-    (year week weekday : ℕ) → year < 10 ^ 4 → week < 10 ^ 2 → weekday < 10 ^ 1 → (before : List ℕ) {one two : List ℕ} {w : ℕ} →
-    w ≡ word (digits year 4 ++ dash ∷ letterW ∷ digits week 2) → one ≡ filled 0 (bytesOf 8 w ++ dash ∷ []) before →
-    two ≡ filled 9 ((48 + weekday) ∷ []) one → two ≡ filled 0 (weekText year week weekday) before
+    (year week weekday : ℕ) → year < 10 ^ 4 → weekday < 10 ^ 1 → (before : List ℕ) {one two : List ℕ} →
+    one ≡ filled 0 (pieces (year / 100) (year % 100) week) before → two ≡ filled 8 (dash ∷ (48 + weekday) ∷ []) one →
+    two ≡ filled 0 (weekText year week weekday) before
 unfolding weekText
-week-filled year week weekday hy hw hd before {one} {two} w e f =
-    let a = (digits year 4 ++ dash ∷ letterW ∷ digits week 2) ++ dash ∷ [] in
+week-filled year week weekday hy hd before {one} {two} e f =
+    let a = digits year 4 ++ dash ∷ letterW ∷ digits week 2 in
     let d : 48 + weekday ≡ 48 + weekday % 10 = omega arith in
-    let e′ : one ≡ filled 0 a before = e ∙ ap (λ l. filled 0 (l ++ dash ∷ []) before) (four-pair-stored year dash letterW week hy hw (omega arith) (omega arith) w) in
-    filled-then 0 a (digits weekday 1) before e′ refl (f ∙ ap (λ d. filled 9 (d ∷ []) one) d)
+    let e′ : one ≡ filled 0 a before = e ∙ ap (λ y. filled 0 (y ++ dash ∷ letterW ∷ digits week 2) before) (both-text year hy) in
+    filled-then 0 a (dash ∷ digits weekday 1) before e′ refl (f ∙ ap (λ d. filled 8 (dash ∷ d ∷ []) one) d)
 
 -- week and weekday of a day in the range have room in it
 room : (count k : ℕ) (z : ℤ) → outside (pos 1) (pos k) z ≡ false → k ≤ 10 ^ count - 1 → HasRoom count z

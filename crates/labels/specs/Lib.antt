@@ -16,3 +16,4 @@ pub mod Filled
 pub mod Parts
 pub mod Timings
 pub mod Stamps
+pub mod WeekPieces

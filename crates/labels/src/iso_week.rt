@@ -14,11 +14,14 @@ use refusal::Refusal;
 use week::WeekAnswer;
 use week::WeekDate;
 ghost use mathlib.Core.Path.{_≡_};
-ghost use Prim.Native.Nat.{_≤_, _<_, _^_};
+ghost use Prim.Native.Nat.{_+_, _*_, _≤_, _<_, _^_};
 ghost use lib.ListN.{length};
 ghost use Rattle.refusal.specs.Outcome.{numberOutcome};
 ghost use Rattle.labels.specs.Written.{writeOutcome, bytesWritten, writtenBuffer};
 ghost use Rattle.labels.specs.Filled.{filled};
+ghost use Rattle.labels.specs.Digits.{digits};
+ghost use Rattle.labels.specs.Words.{bytesOf, partOf};
+ghost use Rattle.labels.specs.WeekPieces.{pieces, PiecesBelow};
 ghost use Rattle.labels.specs.Parts.{HasRoom};
 ghost use Rattle.labels.specs.IsoWeek.{weekLength, weekText, weekDateLabel, weekLabel, readWeekAnswer};
 
@@ -66,8 +69,49 @@ fn put_label(out: &mut [u8], year: u32, week: u32, weekday: u32)
     requires { ⌜ ((year < 10 ^ 4) × ((week < 10 ^ 2) × (weekday < 10 ^ 1))) × (weekLength ≤ length (now out)) ⌝ }
     ensures { λ r. ⌜ now (out .exit) ≡ filled 0 (weekText year week weekday) (now (out .entry)) ⌝ }
 {
-    buffer::store(out, 0, digits::four_and_pair(year, DASH, W, week), 8, DASH);
-    buffer::store(out, 9, 0, 0, (ZERO + weekday) as u8);
+    let mut i = 0;
+    while i < 4 {
+        put_two(out, i, year / 100, year % 100, week);
+        i += 2;
+    }
+    buffer::store(out, 8, DASH as u64, 1, (ZERO + weekday) as u8);
+}
+
+// Puts two of the four pieces of `YYYY-Www` into their places, from one of them on.
+fn put_two(out: &mut [u8], from: usize, century: u32, year: u32, week: u32)
+    requires { ⌜ ((from + 2 ≤ 4) × PiecesBelow century year week) × (weekLength ≤ length (now out)) ⌝ }
+    ensures { λ r. ⌜ now (out .exit) ≡ filled (2 * from) (partOf (2 * from) 4 (pieces century year week)) (now (out .entry)) ⌝ }
+{
+    let end = from + 2;
+    let mut i = from;
+    while i < end {
+        let text = piece(i, century, year, week);
+        buffer::store(out, 2 * i, text, 1, (text / 256) as u8);
+        i += 1;
+    }
+}
+
+// The two bytes of a piece as one number: the century, the year of it, `-W` or the week.
+fn piece(i: usize, century: u32, year: u32, week: u32) -> u64
+    requires { ⌜ (i < 4) × PiecesBelow century year week ⌝ }
+    ensures { λ r. ⌜ (r < 2 ^ 16) × (bytesOf 2 r ≡ partOf (2 * i) 2 (pieces century year week)) ⌝ }
+{
+    if i == 2 {
+        return W as u64 * 0x100 + DASH as u64;
+    }
+    digits::pair_text(number_at(i, century, year, week))
+}
+
+// The number of a piece that is one.
+fn number_at(i: usize, century: u32, year: u32, week: u32) -> u32
+    requires { ⌜ ((i < 4) × (i ≡ 2 → ⊥)) × PiecesBelow century year week ⌝ }
+    ensures { λ r. ⌜ (r < 100) × (digits r 2 ≡ partOf (2 * i) 2 (pieces century year week)) ⌝ }
+{
+    match i {
+        0 => century,
+        1 => year,
+        _ => week,
+    }
 }
 
 // The day count of a week label. 8 for a label of another shape, then the refusals of its week date: 16, then 4.
