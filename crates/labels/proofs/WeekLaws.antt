@@ -1,5 +1,5 @@
 -- Week labels: both round trips, their length, and the reader's refusals.
-use Prim.Native.Nat.{ℕ, _+_, _≤_, _<_, _^_}
+use Prim.Native.Nat.{ℕ, _+_}
 use mathlib.Core.Path.{_≡_, refl, sym, ap, _∙_, subst}
 use mathlib.Core.Logic.{_↔_, _⊎_, ⊎-elim}
 use mathlib.Core.Bool.{Bool, true, false, cond}
@@ -13,10 +13,9 @@ use Rattle.numbers.specs.Range.{outside}
 use Rattle.numbers.proofs.Integers.{outside-no, not-outside, not-below-trans}
 use Rattle.numbers.proofs.Between.{inside-pos}
 use Rattle.week.specs.declared.WeekDate.{WeekDate}
-use Rattle.week.specs.Week.{weekDate}
 use Rattle.week.specs.Answers.{firstWeekYear, lastWeekYear, weekAnswer, weekDaysAnswer}
 use Rattle.week.proofs.Laws.{days-of-week, week-of-days, week-refusal}
-use Rattle.labels.specs.Digits.{digits, number, numberAt, fits}
+use Rattle.labels.specs.Digits.{digits, numberAt, fits}
 use Rattle.labels.specs.Rfc3339.{dash}
 use Rattle.labels.specs.Years.{firstLabelYear, lastLabelYear}
 use Rattle.labels.specs.IsoWeek.{letterW, weekLength, weekText, weekDateLabel, weekLabel, weekShape, readNumbers, readWeekAnswer}

@@ -1,16 +1,16 @@
 -- The answers by the closed forms.
 use Prim.Native.Nat.{ℕ, _+_, _-_, _*_, _/_, _%_, _≤_, _<_}
 use mathlib.Core.Path.{_≡_, refl, sym, ap, ap₂, _∙_, subst}
-use mathlib.Core.Bool.{Bool, true, false, cond}
+use mathlib.Core.Bool.{false}
 use native.Mathlib.Omega.{arith}
 use lib.IntN.{ℤ, pos, natAbs, _+ℤ_, +ℤ-assoc}
-use Rattle.refusal.specs.Outcome.{Outcome, value, refused}
+use Rattle.refusal.specs.Outcome.{refused}
 use Rattle.numbers.specs.Range.{outside, since}
 use Rattle.numbers.proofs.Integers.{add-injective}
 use Rattle.week.specs.declared.WeekDate.{WeekDate}
 use Rattle.week.specs.Week.{weekDate, weekDateOf}
-use Rattle.week.specs.Answers.{firstWeekYear, lastWeekYear, inRange, dayWith, aroundRange, lookFrom, lookThrough, weekDaysAnswer}
-use Rattle.week.specs.Closed.{baseYear, baseCount, fromYear, toYear, fromDay, toDay, firstDay, firstMonday, dayOf}
+use Rattle.week.specs.Answers.{firstWeekYear, lastWeekYear, inRange, dayWith, lookFrom, lookThrough, weekDaysAnswer}
+use Rattle.week.specs.Closed.{baseYear, baseCount, fromYear, toYear, firstDay, firstMonday, dayOf}
 use Rattle.week.proofs.Years.{thursdayAt, first-day-monotone, first-monday, first-day-of-first, first-day-of-last, by-weeks, HasWeek, WeekDay, day-of-week, week-of-day}
 use Rattle.week.proofs.Dates.{on-day}
 use Rattle.week.proofs.Weeks.{week-date-at}

@@ -1,24 +1,23 @@
 -- Days before the base: their years are not after its year, so that they are in no week year of the range.
-use Prim.Native.Nat.{ℕ, zero, suc, _+_, _-_, _≤_, _<_}
+use Prim.Native.Nat.{ℕ, zero, suc, _+_, _-_, _≤_}
 use mathlib.Core.Path.{_≡_, refl, sym, ap, _∙_, subst}
 use mathlib.Core.Bool.{Bool, true, false, cond}
-use native.Mathlib.Omega.{arith, by-contra}
+use native.Mathlib.Omega.{arith}
 use native.Mathlib.Nat.{add-zero, add-suc}
 use native.Mathlib.Numerals.{add-one}
-use lib.IntN.{ℤ, pos, negsuc, natAbs, _+ℤ_, _-ℤ_, +ℤ-assoc, +ℤ-comm, +ℤ-idr, +ℤ-negℤ-cancel, -ℤ-+ℤ-cancel}
+use lib.IntN.{ℤ, pos, natAbs, _+ℤ_, _-ℤ_, +ℤ-assoc, +ℤ-comm, +ℤ-idr, +ℤ-negℤ-cancel, -ℤ-+ℤ-cancel}
 use lib.Signed.{ltZ, nonNeg}
 use Rattle.numbers.specs.Floor.{floorRemainder}
 use Rattle.numbers.specs.Range.{outside, since}
-use Rattle.numbers.proofs.Integers.{on-sub, above, below, is-below, outside-no, since-add, not-below, not-below-trans, lt-add}
+use Rattle.numbers.proofs.Integers.{on-sub, above, below, is-below, outside-no, since-add, not-below, not-below-trans}
 use Rattle.numbers.proofs.Bools.{no-both}
 use Rattle.calendar.specs.Range.{firstCount}
 use Rattle.calendar.specs.declared.Date.{Date}
 use Rattle.calendar.specs.Count.{weekday}
-use Rattle.calendar.proofs.Weekdays.{weekday-between}
 use Rattle.week.specs.Days.{previousDay, dateBefore, dateOn}
 use Rattle.week.specs.Week.{thursday, thursdayOf, weekDateOf}
 use Rattle.week.specs.Answers.{firstWeekYear, lastWeekYear}
-use Rattle.week.specs.Closed.{baseYear, baseCount, fromDay, firstDay, InYear}
+use Rattle.week.specs.Closed.{baseYear, baseCount, fromDay}
 use Rattle.week.proofs.Years.{first-day-step, first-day-monotone}
 use Rattle.week.proofs.Dates.{on-day}
 

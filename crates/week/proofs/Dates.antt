@@ -1,17 +1,16 @@
 -- The date of any day: the step back undone by the next day, and the closed forms from the base on.
 use Prim.Native.Nat.{ℕ, zero, suc, _+_, _-_, _≤_, _<_}
-use mathlib.Core.Path.{_≡_, refl, sym, ap, ap₂, _∙_, subst}
-use mathlib.Core.Bool.{Bool, true, false, cond}
+use mathlib.Core.Path.{_≡_, refl, sym, ap, _∙_}
 use native.Mathlib.Decide.{decLt}
 use native.Mathlib.Omega.{arith, by-contra}
-use lib.IntN.{ℤ, pos, negsuc, natAbs, _+ℤ_, _-ℤ_, +ℤ-assoc}
+use lib.IntN.{ℤ, pos, negsuc, _+ℤ_, _-ℤ_, +ℤ-assoc}
 use lib.Dec.{ltb}
 use lib.Signed.{ltZ}
 use borrow.Author.Tests.{lt-ltb, le-ltb}
 use Rattle.numbers.specs.Range.{since}
-use Rattle.numbers.proofs.Integers.{sub-pos, since-add, lt-add, add-since}
+use Rattle.numbers.proofs.Integers.{sub-pos, since-add, lt-add}
 use Rattle.calendar.specs.Range.{firstCount}
-use Rattle.calendar.specs.Gregorian.{monthLength, dateOf, nextDay, firstDate, dateAfter}
+use Rattle.calendar.specs.Gregorian.{dateOf, dateAfter}
 use Rattle.calendar.specs.Count.{dateOfCount, dayOfYear}
 use Rattle.calendar.specs.Closed as calendar
 use Rattle.calendar.specs.Closed.{cycle, leapDay, start, monthDays, before, Valid, dayNumber, public}

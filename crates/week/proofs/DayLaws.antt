@@ -11,10 +11,9 @@ use lib.ListN.{getD, take}
 use lib.Signed.{ltZ}
 use borrow.Author.Tests.{lt-ltb, le-ltb}
 use Rattle.refusal.specs.Outcome.{value, refused}
-use Rattle.numbers.specs.Range.{outside, since, Within}
-use Rattle.numbers.proofs.Bools.{no-both}
+use Rattle.numbers.specs.Range.{outside}
 use Rattle.numbers.proofs.Between.{natural-within, inside-pos}
-use Rattle.numbers.proofs.Integers.{sub-pos, above, below, not-below, not-below-trans, since-add, outside-no, not-outside}
+use Rattle.numbers.proofs.Integers.{above, below, not-below, not-below-trans, since-add, outside-no, not-outside}
 use Rattle.calendar.specs.Range.{firstYear, lastYear, firstCount, lastCount}
 use Rattle.calendar.specs.declared.Date.{Date}
 use Rattle.calendar.specs.Gregorian.{leapYear, monthLengths, monthLength, dateOf, nextDay, firstDate, dateAfter}
@@ -23,11 +22,10 @@ use Rattle.calendar.specs.Answers.{daysAnswer}
 use Rattle.calendar.proofs.Months.{each-month}
 use Rattle.calendar.proofs.Dates.{days-inside}
 use Rattle.calendar.proofs.Laws.{date-of-days, date-of-count-is-valid}
-use Rattle.week.specs.declared.WeekDate.{WeekDate}
 use Rattle.week.specs.Days.{lastOf, previousDay, dateBefore, dateOn}
 use Rattle.week.specs.Week.{weekDate, weekDateOf}
 use Rattle.week.specs.Answers.{weekAnswer, firstWeekYear, lastWeekYear}
-use Rattle.week.specs.Closed.{baseYear, baseCount, firstDay, InYear}
+use Rattle.week.specs.Closed.{baseCount, firstDay, InYear}
 use Rattle.week.proofs.Years.{thursdayAt, first-day-step}
 use Rattle.week.proofs.Dates.{pos-less, on-day}
 use Rattle.week.proofs.Weeks.{weekday-at, week-date-at}

@@ -1,17 +1,15 @@
 -- The theorems of week dates, over the definition by steps: document 02, request Seven.
-use Prim.Native.Nat.{ℕ, _+_, _-_, _*_, _/_, _%_, _≤_, _<_}
-use mathlib.Core.Path.{_≡_, refl, sym, ap, ap₂, _∙_, subst}
+use Prim.Native.Nat.{ℕ, _+_, _-_, _≤_}
+use mathlib.Core.Path.{_≡_, refl, sym, ap, ap₂, _∙_}
 use mathlib.Core.Logic.{_↔_, _⊎_, inl, inr, ⊎-elim}
 use mathlib.Core.Bool.{Bool, true, false, cond, not}
-use native.Mathlib.Decide.{decLt}
 use native.Mathlib.Omega.{arith, by-contra}
 use lib.IntN.{ℤ, pos, natAbs, _+ℤ_}
 use lib.Signed.{ltZ}
-use borrow.Author.Tests.{ltb-true, ltb-false, lt-ltb}
 use Rattle.refusal.specs.Outcome.{Outcome, value, refused}
 use Rattle.refusal.proofs.Outcomes.{clash, passes, same-value}
 use Rattle.numbers.specs.Range.{outside, since}
-use Rattle.numbers.proofs.Integers.{outside-no, not-outside, add-since, since-le, lt-add, not-below-trans, add-injective}
+use Rattle.numbers.proofs.Integers.{add-since}
 use Rattle.numbers.proofs.Between.{natural-within, inside-pos, inside-from}
 use Rattle.numbers.proofs.Bools.{no-both}
 use Rattle.calendar.specs.Range.{firstCount, lastCount}
@@ -21,9 +19,9 @@ use Rattle.calendar.proofs.Laws.{weekday-is-in-range}
 use Rattle.week.specs.declared.WeekDate.{WeekDate}
 use Rattle.week.specs.Week.{weekDate, weekDateOf}
 use Rattle.week.specs.Answers.{weekAnswer, firstWeekYear, lastWeekYear, inRange, weekDaysAnswer}
-use Rattle.week.specs.Order.{EarlierWeek, by-year, by-week, by-weekday, DayOf, HasWeeks}
-use Rattle.week.specs.Closed.{baseYear, baseCount, fromYear, toYear, fromDay, toDay, firstDay, InYear, weeks, dayOf}
-use Rattle.week.proofs.Years.{thursdayAt, first-day-step, first-day-monotone, first-day-of-first, first-day-of-last, HasWeek, WeekDay, by-weeks, day-of-week, week-of-day}
+use Rattle.week.specs.Order.{DayOf, HasWeeks}
+use Rattle.week.specs.Closed.{baseYear, baseCount, fromYear, toYear, InYear, weeks, dayOf}
+use Rattle.week.proofs.Years.{thursdayAt, first-day-step, first-day-monotone, first-day-of-first, first-day-of-last, HasWeek, by-weeks, week-of-day}
 use Rattle.week.proofs.Dates.{on-day}
 use Rattle.week.proofs.Weeks.{week-date-at}
 use Rattle.week.proofs.Answers.{Has, week-date-of-day, no-week, one-day}

@@ -14,7 +14,7 @@ use Rattle.numbers.proofs.Integers.{lt-add, add-injective}
 use Rattle.calendar.specs.Range.{firstCount, lastCount}
 use Rattle.calendar.proofs.Order.{Precedes, in-year, in-month, in-day, trichotomy}
 use Rattle.week.specs.declared.WeekDate.{WeekDate}
-use Rattle.week.specs.Week.{weekDate, weekDateOf}
+use Rattle.week.specs.Week.{weekDateOf}
 use Rattle.week.specs.Answers.{weekAnswer, weekDaysAnswer}
 use Rattle.week.specs.Order.{EarlierWeek, by-year, by-week, by-weekday}
 use Rattle.week.specs.Closed.{baseYear, baseCount, firstDay}

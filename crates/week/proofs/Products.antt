@@ -5,7 +5,7 @@ use mathlib.Core.Path.{_≡_, refl, sym, ap, _∙_, subst}
 use native.Mathlib.Decide.{decLt}
 use native.Mathlib.Nat.{div-eq-of-lt-le}
 use native.Mathlib.Omega.{arith}
-use Rattle.week.specs.Closed.{toDay, firstDay, InYear}
+use Rattle.week.specs.Closed.{firstDay, InYear}
 use Rattle.week.proofs.Years.{first-day-is}
 
 abbrev pub centuryOf : ℕ → ℕ

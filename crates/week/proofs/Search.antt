@@ -1,10 +1,10 @@
 -- The day that has a week date, and where none has.
-use Prim.Native.Nat.{ℕ, zero, suc, _+_, _-_, _*_, _/_, _%_, _≤_, _<_}
-use mathlib.Core.Path.{_≡_, refl, sym, ap, ap₂, _∙_, subst}
+use Prim.Native.Nat.{ℕ, zero, suc, _+_, _-_, _<_}
+use mathlib.Core.Path.{_≡_, refl, sym, ap, _∙_}
 use mathlib.Core.Bool.{Bool, true, false, cond, _&&_}
 use native.Mathlib.Omega.{arith}
 use lib.IntN.{ℤ, pos, _+ℤ_, +ℤ-assoc, +ℤ-idr}
-use Rattle.refusal.specs.Outcome.{Outcome, refused}
+use Rattle.refusal.specs.Outcome.{refused}
 use Rattle.numbers.specs.Range.{eqZ}
 use Rattle.numbers.proofs.Integers.{eqZ-same, eqZ-true}
 use Rattle.numbers.proofs.Bools.{and-left, and-right}

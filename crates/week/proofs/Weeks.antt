@@ -1,22 +1,22 @@
 -- Week dates by the closed forms: which week a day from the base on lies in.
-use Prim.Native.Nat.{ℕ, zero, suc, _+_, _-_, _*_, _/_, _%_, _≤_, _<_}
-use mathlib.Core.Path.{_≡_, refl, sym, ap, ap₂, _∙_, subst}
+use Prim.Native.Nat.{ℕ, zero, suc, _+_, _-_, _/_, _%_, _≤_}
+use mathlib.Core.Path.{_≡_, refl, ap, _∙_}
 use mathlib.Core.Bool.{Bool, true, false, cond}
 use native.Mathlib.Numerals.{add-one}
 use native.Mathlib.Omega.{arith}
-use lib.Dec.{eqb, lit<}
+use lib.Dec.{eqb}
 use lib.IntN.{ℤ, pos, negsuc, natAbs, _+ℤ_, _-ℤ_, +ℤ-assoc}
 use borrow.Author.Tests.{eqb-true, eqb-false}
 use Rattle.numbers.specs.Floor.{floorRemainder}
 use Rattle.numbers.proofs.Integers.{on-sub, sub-pos}
-use Rattle.calendar.specs.Count.{weekday, dayOfYear}
+use Rattle.calendar.specs.Count.{weekday}
 use Rattle.calendar.proofs.Weekdays.{remainder-swap, weekday-between, weekday-after}
 use Rattle.week.specs.declared.WeekDate.{WeekDate}
 use Rattle.week.specs.Days.{dateOn}
 use Rattle.week.specs.Week.{thursday, thursdayOf, thursdays, thursdaysOfYear, weekDate, weekDateOf}
 use Rattle.week.specs.Closed.{baseYear, baseCount, firstDay, InYear}
 use Rattle.week.proofs.Years.{thursdayAt, one-year}
-use Rattle.week.proofs.Dates.{OnDay, on-day}
+use Rattle.week.proofs.Dates.{on-day}
 
 -- days since the last Monday
 abbrev sinceMonday : ℤ → ℕ

@@ -1,11 +1,11 @@
 -- The year, the week and the weekday are tested; then there is one day, which may lie outside the range.
 use Prim.Native.Nat.{ℕ, _+_, _≤_}
-use mathlib.Core.Path.{_≡_, refl, sym, ap, ap₂, _∙_, subst}
+use mathlib.Core.Path.{_≡_, sym, ap, ap₂, _∙_}
 use mathlib.Core.Logic.{⊎-elim}
 use mathlib.Core.Bool.{Bool, true, false, cond, not}
 use native.Mathlib.Omega.{arith}
 use lib.IntN.{ℤ, pos, natAbs, _+ℤ_, +ℤ-comm}
-use mir.Facts.{toZ-ofZ, toZ-pos}
+use mir.Facts.{toZ-ofZ}
 use mir.Syntax.{w64}
 use mir.Val.{toZ}
 use borrow.Author.Needs.{needs}
@@ -17,7 +17,7 @@ use Rattle.numbers.proofs.Between.{natural-within, inside-pos}
 use Rattle.numbers.proofs.Machine.{read, answered, cast-pos, add-first, add-first-is}
 use Rattle.calendar.specs.Range.{firstCount, lastCount}
 use Rattle.week.specs.Answers.{firstWeekYear, lastWeekYear, inRange, weekDaysAnswer}
-use Rattle.week.specs.Closed.{baseYear, baseCount, fromYear, toYear, weeks, dayOf}
+use Rattle.week.specs.Closed.{baseYear, baseCount, weeks, dayOf}
 use Rattle.week.proofs.Years.{HasWeek, by-weeks}
 use Rattle.week.proofs.Answers.{no-week, one-day}
 use Rattle.week.proofs.days_from_week.Statement.{statement}

@@ -1,18 +1,17 @@
 -- The Thursday of the week, from the base on.
 use Prim.Native.Nat.{ℕ, _+_, _-_, _/_, _%_, _^_, _≤_, _<_}
-use mathlib.Core.Path.{_≡_, refl, sym, ap, ap₂, _∙_, subst}
+use mathlib.Core.Path.{_≡_, refl, sym, ap, _∙_, subst}
 use native.Mathlib.Omega.{arith}
 use lib.IntN.{ℤ, pos, natAbs, _+ℤ_, +ℤ-comm}
 use mir.Facts.{toZ-ofZ, toZ-pos}
 use mir.Syntax.{w64}
-use mir.Val.{toZ}
 use borrow.Author.Needs.{needs}
 use Rattle.numbers.specs.Range.{since}
 use Rattle.numbers.proofs.Machine.{read, pos-fits, cast-pos, add-first, add-first-is}
 use Rattle.calendar.specs.Range.{firstCount, lastCount}
 use Rattle.calendar.specs.Count.{weekday}
 use Rattle.week.specs.Week.{weekDate, weekDateOf}
-use Rattle.week.specs.Closed.{baseYear, baseCount, toYear, toDay, InYear, firstDay}
+use Rattle.week.specs.Closed.{baseYear, baseCount, toYear, InYear, firstDay}
 use Rattle.week.proofs.Years.{thursdayAt, year-bound}
 use Rattle.week.proofs.Range.{is}
 use Rattle.week.proofs.Weeks.{weekday-at, week-date-at}

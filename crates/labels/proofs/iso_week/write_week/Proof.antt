@@ -1,7 +1,6 @@
 use mathlib.Core.Path.{_≡_, sym, ap, _∙_}
 use mir.Facts.{toZ-ofZ}
-use Rattle.refusal.specs.Outcome.{value, refused, andThen}
-use Rattle.refusal.specs.Numbers.{refusalNumber}
+use Rattle.refusal.specs.Outcome.{value, andThen}
 use Rattle.week.specs.Answers.{weekOutcome, weekAnswer}
 use Rattle.labels.specs.IsoWeek.{weekDateLabel, weekLabel}
 use Rattle.labels.proofs.Writing.{renamed, nothing-written}

@@ -2,7 +2,7 @@ use Prim.Native.Nat.{ℕ, _+_, _-_, _*_, _/_, _%_, _^_, _≤_, _<_}
 use mathlib.Core.Path.{_≡_, sym, ap, _∙_, subst}
 use native.Mathlib.Omega.{arith}
 use Rattle.week.specs.Closed.{firstDay, InYear}
-use Rattle.week.proofs.Products.{centuryOf, regular, yearOf, dayOfYear, century-product, year-product, week-product, in-year, day-is}
+use Rattle.week.proofs.Products.{centuryOf, regular, century-product, year-product, week-product, in-year, day-is}
 use borrow.Author.Needs.{needs}
 use Rattle.week.proofs.year_week.of_day.Statement.{statement}
 use Rattle.week.proofs.year_week.of_day.Tie as tie
