@@ -7,6 +7,7 @@ use crate::digits::DASH;
 use crate::digits::Values;
 use crate::digits::ZERO;
 use crate::malformed;
+use crate::two_digits;
 use crate::years::FIRST_LABEL_YEAR;
 use crate::years::LAST_LABEL_YEAR;
 use refusal::NumberAnswer;
@@ -99,7 +100,7 @@ fn piece(i: usize, century: u32, year: u32, week: u32) -> u64
     if i == 2 {
         return W as u64 * 0x100 + DASH as u64;
     }
-    digits::pair_text(number_at(i, century, year, week))
+    two_digits::text_of(number_at(i, century, year, week))
 }
 
 // The number of a piece that is one.

@@ -22,6 +22,7 @@ mod digits;
 pub mod iso_week;
 pub mod rfc3339;
 mod timestamp;
+mod two_digits;
 pub mod webvtt;
 mod years;
 

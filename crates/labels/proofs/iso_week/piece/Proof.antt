@@ -23,7 +23,7 @@ two-digits n r h e =
 returns-2 : tie.Need-returns-2
 returns-2 c =
     let n = c .before .number-at .ensures in
-    let d = two-digits (c .before .number-at .result) (c .pair-text .result) (n .0) (c .pair-text .ensures) in
+    let d = two-digits (c .before .number-at .result) (c .text-of .result) (n .0) (c .text-of .ensures) in
     (d .0, d .1 ∙ n .1)
 
 pub piece-spec : {M : Type 1} → statement M
