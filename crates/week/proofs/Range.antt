@@ -1,12 +1,17 @@
 -- A number in a range, counted from a base that is not above its first.
-use Prim.Native.Nat.{_≤_}
+use Prim.Native.Nat.{_≤_, _<_, _^_}
 use mathlib.Core.Path.{_≡_, sym, ap₂, _∙_}
 use mathlib.Core.Bool.{false}
-use lib.IntN.{ℤ, pos, _+ℤ_}
-use lib.Signed.{ltZ}
+use native.Mathlib.Omega.{arith}
+use lib.Dec.{T}
+use lib.IntN.{ℤ, pos, natAbs, _+ℤ_, _-ℤ_}
+use lib.Signed.{ltZ, nonNeg}
 use borrow.Author.Tests.{ltb-false}
+use mir.Syntax.{w64}
+use mir.Val.{SFits, Fits}
 use Rattle.numbers.specs.Range.{outside, since}
 use Rattle.numbers.proofs.Integers.{outside-no, not-below-trans, add-since, since-le, lt-add}
+use Rattle.numbers.proofs.Machine.{read, from-first, from-first-cast, from-first-is}
 
 module _ (base first last : ℤ) (from-base : ltZ first base ≡ false) (some : ltZ last base ≡ false) (z : ℤ) (h : outside first last z ≡ false) where
   pub low : ltZ z base ≡ false
@@ -25,3 +30,14 @@ module _ (base first last : ℤ) (from-base : ltZ first base ≡ false) (some : 
 
   pub to : since base z ≤ since base last
   to = since-le base last some z low high
+
+  -- the machine's difference, and the cast of it
+  module _ (near : since base last < 2 ^ 63) (fits : SFits w64 z) where
+    pub sub-fits : SFits w64 (read z -ℤ base)
+    sub-fits = from-first base last some near fits low high
+
+    pub cast-fits : T (nonNeg (read (read z -ℤ base))) × Fits w64 (natAbs (read (read z -ℤ base)))
+    cast-fits = from-first-cast base last some near fits low high w64 (omega (arith, near))
+
+    pub cast-is : natAbs (read (read z -ℤ base)) ≡ since base z
+    cast-is = from-first-is base last some near fits low high
