@@ -87,22 +87,21 @@ fn labels() {
 }
 
 fn written(days: i64) {
-    text(b"day ");
-    number(days);
-    text(b": label ");
     let mut out = [b'?'; LENGTH];
-    let answer = labels::iso_week::write_week(days, &mut out);
-    written_answer(answer, &out);
-    text(b"\n");
+    written_to(days, b": label ", &mut out);
 }
 
 fn short(days: i64) {
+    let mut out = [b'?'; 9];
+    written_to(days, b" in 9 bytes: label ", &mut out);
+}
+
+fn written_to(days: i64, says: &[u8], out: &mut [u8]) {
     text(b"day ");
     number(days);
-    text(b" in 9 bytes: label ");
-    let mut out = [b'?'; 9];
-    let answer = labels::iso_week::write_week(days, &mut out);
-    written_answer(answer, &out);
+    text(says);
+    let answer = labels::iso_week::write_week(days, out);
+    written_answer(answer, out);
     text(b"\n");
 }
 
