@@ -1,8 +1,8 @@
 /*
  * Every call, with what it is lent in heap blocks of exactly that size. Answers, buffers, lists and places are held to plain.h,
  * whole: what a refused call was lent and what stands after a label must be as it was. The texts for the readers of timestamps
- * and cue lines are in test_timings.c, the calls of the transport clock in test_transport.c, and more numbers and labels of week
- * dates in test_weeks.c. Compiled as C and as C++.
+ * and cue lines are in test_timings.c, the calls of the transport clock in test_transport.c, and the numbers and labels to read of
+ * week dates in test_weeks.c. Compiled as C and as C++.
  */
 #include <string.h>
 
@@ -16,7 +16,6 @@
 #define LETTER_Z (LABEL - 1)
 #define RIGHT_INSTANT (1683729000 * PAPER_SECOND)
 #define WEEK_LABEL OVENQUILL_WEEK_LABEL_BYTES
-#define RIGHT_DAY 19487
 
 /* Each call at one input */
 
@@ -34,11 +33,6 @@ static void try_date(int64_t y, int64_t m, int64_t d, int64_t days)
     same("ovenquill_day_of_year", d, ovenquill_day_of_year(y, m, d), plain_day_of_year(y, m, d));
     SAME_WITH_PLACE(int64_t, d, ovenquill_days_from_civil(y, m, d, lent), plain_days_from_civil(y, m, d, right));
     SAME_WITH_PLACE(ovenquill_date, days, ovenquill_add_days(y, m, d, days, lent), plain_add_days(y, m, d, days, right));
-}
-
-static void try_week(int64_t y, int64_t w, int64_t d)
-{
-    SAME_WITH_PLACE(int64_t, y, ovenquill_days_from_week(y, w, d, lent), plain_days_from_week(y, w, d, right));
 }
 
 static void try_instant(int64_t instant)
@@ -80,14 +74,6 @@ static void try_reader(const void *label, size_t length)
     SAME_WITH_PLACE(int64_t, (int64_t)length, ovenquill_read_instant(lent_label, length, lent),
                     plain_read_instant(same_label, length, right));
     hold("ovenquill_read_instant in its label", (int64_t)length, lent_label, same_label, length);
-}
-
-static void try_week_reader(const void *label, size_t length)
-{
-    uint8_t *lent_label = (uint8_t *)lend_copy(label, length), *same_label = (uint8_t *)lend_copy(label, length);
-    SAME_WITH_PLACE(int64_t, (int64_t)length, ovenquill_read_week(lent_label, length, lent),
-                    plain_read_week(same_label, length, right));
-    hold("ovenquill_read_week in its label", (int64_t)length, lent_label, same_label, length);
 }
 
 /* Answers what the plain call does. */
@@ -147,15 +133,10 @@ static void check_edges(void)
         try_date(2000, 2, 29, e);
         try_date(OVENQUILL_FIRST_YEAR, 1, 1, e);
         try_date(OVENQUILL_LAST_YEAR, 12, 31, e);
-        try_week(e, 1, 1);
-        try_week(2020, e, 1);
-        try_week(2020, 53, e);
         for (j = 0; j < COUNT(edges); j++) {
             try_date(e, edges[j], edges[j], edges[j]);
             try_date(2000, e, edges[j], edges[j]);
             try_date(2000, 2, e, edges[j]);
-            try_week(e, edges[j], edges[j]);
-            try_week(2020, e, edges[j]);
         }
     }
     /* each field at the edges and at the numbers around its range's ends, with the others right and with one of them wrong */
@@ -187,7 +168,6 @@ static void check_random(int rounds)
         try_date(year, month, random_within(-1, 33), random_within(-width, width));
         try_date(year, month, random_within(1, 28), random_within(-width, width));
         try_fields(date_time);
-        try_week(year, random_within(-1, 55), random_within(-1, 9));
         try_count(random_within(-width, width));
         try_instant(random_instant());
         try_instant(random_within(-width, width));
@@ -293,26 +273,6 @@ static void check_reader(void)
             try_reading(year, 1 + k % 12, 28, k, 59, 60 - k % 2);
             try_reading(year, 12, 31, 0, k, 100 - k - 1);
         }
-}
-
-/* Week labels cut off, followed by others, and of random days. */
-static void check_week_reader(void)
-{
-    static uint8_t labels[LONGEST + WEEK_LABEL];
-    uint8_t label[WEEK_LABEL];
-    size_t i;
-    for (i = 0; i + WEEK_LABEL <= sizeof labels; i += WEEK_LABEL)
-        plain_write_week(RIGHT_DAY, labels + i, WEEK_LABEL);
-    for (i = 0; i <= SHORT; i++)
-        try_week_reader(labels, i);
-    for (i = 0; i < COUNT(long_lengths); i++)
-        try_week_reader(labels, long_lengths[i]);
-    try_week_reader(labels, 256 + WEEK_LABEL);
-    try_week_reader(labels, 65536 + WEEK_LABEL);
-    for (i = 0; i < 1000; i++) {
-        plain_write_week(random_within(OVENQUILL_FIRST_COUNT + 2, OVENQUILL_LAST_COUNT), label, WEEK_LABEL);
-        try_week_reader(label, WEEK_LABEL);
-    }
 }
 
 static const int64_t bad[] = {OVENQUILL_FIRST_INSTANT - 1, OVENQUILL_LAST_INSTANT + 1, INT64_MIN, INT64_MAX};
@@ -803,7 +763,6 @@ int main(int argc, char **argv)
     check_random(rounds);
     check_writers();
     check_reader();
-    check_week_reader();
     check_short_lists();
     check_two_instants();
     check_many_falls();

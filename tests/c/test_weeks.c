@@ -224,6 +224,18 @@ static void check_lengths(void)
     }
 }
 
+/* A label with others behind it, also of 10 bytes modulo 2^8 and 2^16. */
+static void check_long_lengths(void)
+{
+    static const size_t lengths[] = {64, 255, 256, 256 + LABEL, 4096, 65536, 65536 + LABEL};
+    static char labels[65536 + LABEL];
+    size_t i;
+    for (i = 0; i < sizeof labels; i++)
+        labels[i] = right_labels[0][i % LABEL];
+    for (i = 0; i < COUNT(lengths); i++)
+        try_read(labels, lengths[i]);
+}
+
 /* Every byte at every place. */
 static void check_damaged(void)
 {
@@ -276,11 +288,13 @@ static void check_digits(void)
     }
 }
 
-static void check_random_labels(int64_t rounds)
+static void check_random(int64_t rounds)
 {
     while (rounds-- > 0) {
         uint8_t label[LABEL];
         size_t i;
+        try_numbers(random_within(OVENQUILL_FIRST_WEEK_YEAR - 9, OVENQUILL_LAST_WEEK_YEAR + 9), random_within(-1, 55),
+                    random_within(-1, 9));
         try_digits(random_within(0, 9999), random_within(0, 54), random_within(0, 8));
         for (i = 0; i < LABEL; i++)
             label[i] = (uint8_t)random_within(0, 255);
@@ -294,10 +308,11 @@ static void check_labels(int64_t step)
     for (i = 0; i < COUNT(wrong_labels); i++)
         try_read(wrong_labels[i], strlen(wrong_labels[i]));
     check_lengths();
+    check_long_lengths();
     check_damaged();
     check_damaged_twice();
     check_digits();
-    check_random_labels(20000 / step);
+    check_random(20000 / step);
 }
 
 int main(int argc, char **argv)
