@@ -1,5 +1,6 @@
 pub mod Words
 pub mod Filled
+pub mod Pieces
 pub mod Writing
 pub mod Cells
 pub mod DigitWords

@@ -15,12 +15,14 @@ use mir.Val.{SFits}
 use mir.Facts.{toZ-ofZ}
 use Rattle.refusal.specs.Outcome.{value, refused}
 use Rattle.numbers.specs.Range.{outside}
-use Rattle.numbers.proofs.Between.{natural-within, read-high}
+use Rattle.numbers.proofs.Between.{natural-within, read-high, inside-pos}
+use Rattle.numbers.proofs.Bools.{no-both}
 use Rattle.numbers.proofs.Machine.{read}
 use Rattle.labels.specs.Digits.{digits}
 use Rattle.labels.specs.Clock.{colon, clockText}
 use Rattle.labels.specs.Words.{word, bytesOf}
 use Rattle.labels.specs.Filled.{filled, Begins}
+use Rattle.labels.specs.PositionPieces.{shortText}
 use Rattle.labels.specs.Webvtt.{lastPosition, perHour, perMinute, perSecond, hourDigits, clockOf, positionText, positionLabel}
 use Rattle.labels.proofs.Decimal.{length-digits, drop-digits}
 use Rattle.labels.proofs.Words.{AllLe, drop-le, all-bytes, more-bytes, word-drop}
@@ -28,6 +30,10 @@ use Rattle.labels.proofs.DigitWords.{place-100, place-1000}
 use Rattle.labels.proofs.Filled.{filled-begins, filled-over}
 
 -- ---- the range
+
+-- the last position whose hours have two digits
+abbrev pub lastShort : ℤ
+lastShort = pos 359999999
 
 module _ {z : ℤ} (f : SFits w64 z) where
   pub out-of-range : outside (pos 0) lastPosition z ≡ true → refused 6 ≡ positionLabel z
@@ -42,6 +48,25 @@ module _ {z : ℤ} (f : SFits w64 z) where
     pub in-range : natAbs (read z) ≤ natAbs lastPosition
     in-range = read-high f (natural-within 0 lastPosition z h)
 
+  -- the last position with two digits of hours is in the range, and a position is beyond it or not
+  pub short-in-range : outside (pos 0) lastShort z ≡ false → outside (pos 0) lastPosition z ≡ false
+  short-in-range h =
+      let w = natural-within 0 lastShort z h in
+      ap (outside (pos 0) lastPosition) (w .is) ∙ inside-pos 0 (natAbs lastPosition) (natAbs z) (omega arith) (omega (arith, w .high))
+
+  pub short-below : outside (pos 0) lastShort z ≡ false → natAbs (read z) < 360000000
+  short-below h = omega (arith, read-high f (natural-within 0 lastShort z h))
+
+  pub long-above : outside (pos 0) lastShort z ≡ true → outside (pos 0) lastPosition z ≡ false → 360000000 ≤ natAbs (read z)
+  long-above h k = subst (λ (y : ℤ). 360000000 ≤ natAbs y) (sym (toZ-ofZ f)) (go (ltb (natAbs z) 360000000) refl)
+    where
+      go : (t : Bool) → ltb (natAbs z) 360000000 ≡ t → 360000000 ≤ natAbs z
+      go false e = ltb-false (natAbs z) 360000000 e
+      go true e =
+          let i = natural-within 0 lastPosition z k .is in
+          let l = ltb-true (natAbs z) 360000000 e in
+          no-both (outside (pos 0) lastShort z) h (ap (outside (pos 0) lastShort) i ∙ inside-pos 0 (natAbs lastShort) (natAbs z) (omega arith) (omega arith))
+
 -- ---- the clock
 
 -- the minutes, seconds and milliseconds of an hour's milliseconds
@@ -52,6 +77,19 @@ clock-is n =
     let s : n % perHour / 1000 % 60 ≡ n % perMinute / perSecond = omega arith in
     let k : n % perHour % 1000 ≡ n % perSecond = omega arith in
     λ i. clockText 3 (m i) (s i) (k i)
+
+-- the label below 100 hours, by its minutes and what is beyond them
+short-hours : (n : ℕ) → n < 360000000 → hourDigits (n / perHour) ≡ 2
+short-hours n h =
+    let below : n / perHour < 100 = omega arith in
+    ap (λ t. cond t 2 (cond (ltb (n / perHour) 1000) 3 (cond (ltb (n / perHour) 10000) 4 5))) (lt-ltb (n / perHour) 100 below)
+
+pub short-text : (n : ℕ) → n < 360000000 → shortText (n / 60000) (n % 60000) ≡ positionText n
+short-text n h =
+    let hours : n / 60000 / 60 ≡ n / perHour = div-div-eq-div-mul n 60000 60 in
+    let minute : n / 60000 % 60 ≡ n % perHour / perMinute = omega arith in
+    let fraction : n % 60000 % 1000 ≡ n % perSecond = omega arith in
+    (λ i. digits (hours i) 2 ++ colon ∷ clockText 3 (minute i) (n % perMinute / perSecond) (fraction i)) ∙ sym (ap (λ k. digits (n / perHour) k ++ colon ∷ clockOf n) (short-hours n h))
 
 -- ---- the hours
 
@@ -74,6 +112,9 @@ two-to-five h =
 pub length-position : (n : ℕ) → length (positionText n) ≡ hourDigits (n / perHour) + 10
 length-position n = length-append (digits (n / perHour) (hourDigits (n / perHour))) (colon ∷ clockOf n) ∙ ap (λ l. l + 10) (length-digits (n / perHour) (hourDigits (n / perHour)))
 
+pub short-length : (n : ℕ) → n < 360000000 → length (positionText n) ≡ 12
+short-length n h = length-position n ∙ ap (λ d. d + 10) (short-hours n h)
+
 five-digits : (n : ℕ) → n < 100000 → (48 + n / 10000) ∷ digits (n % 10000) 4 ≡ digits n 5
 five-digits n h =
     let z : n / 10000 ≡ n / 10 / 10 / 10 / 10 % 10 = rw (place-1000 n, div-div-eq-div-mul n 1000 10) (omega arith) in
@@ -87,21 +128,12 @@ length-hours : (h count : ℕ) → length (digits h count ++ colon ∷ []) ≡ c
 length-hours h count = length-append (digits h count) (colon ∷ []) ∙ ap (λ l. l + 1) (length-digits h count)
 
 module _ (h : ℕ) {count : ℕ} (c : count ≡ hourDigits h) (buffer : List ℕ) {after : List ℕ} (room : 8 ≤ length buffer) where
-  -- two digits and the colon
-  pub few-hours : h < 100 → after ≡ filled 0 (bytesOf 2 (12336 + h % 10 * 256 + h / 10) ++ colon ∷ []) buffer → Begins (digits h count ++ colon ∷ []) 8 buffer after
-  few-hours l e =
-      let two : count ≡ 2 = c ∙ ap (λ t. cond t 2 (cond (ltb h 1000) 3 (cond (ltb h 10000) 4 5))) (lt-ltb h 100 l) in
-      let w : 12336 + h % 10 * 256 + h / 10 ≡ word (digits h 2) = omega arith in
-      let d = all-bytes (digits h 2) w (omega arith, (omega arith, tt)) refl ∙ sym (ap (digits h) two) in
-      filled-begins (digits h count ++ colon ∷ []) [] buffer (e ∙ ap (λ l. filled 0 l buffer) (ap (λ l. l ++ colon ∷ []) d ∙ sym (append-nil (digits h count ++ colon ∷ []))))
-      (omega (arith, length-append (digits h count ++ colon ∷ []) [], length-hours h count)) room
-
-  -- more of them: five and the colon in one number, without the first ones
-  pub many-hours :
+  -- five digits and the colon in one number, without the first ones
+  pub hours-begin :
       h < 100000 → {four : ℕ} → four ≡ word (digits (h % 10000) 4) →
       after ≡ filled 0 (bytesOf 7 ((colon * 1099511627776 + four * 256 + (48 + h / 10000)) / 2 ^ (8 * (5 - count))) ++ 0 ∷ []) buffer →
       Begins (digits h count ++ colon ∷ []) 8 buffer after
-  many-hours l {four} f e =
+  hours-begin l {four} f e =
       let text = digits h count ++ colon ∷ [] in
       let most : count ≤ 5 = omega (arith, two-to-five h) in
       let k = 5 - count in

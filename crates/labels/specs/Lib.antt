@@ -17,3 +17,4 @@ pub mod Parts
 pub mod Timings
 pub mod Stamps
 pub mod WeekPieces
+pub mod PositionPieces

@@ -21,6 +21,8 @@ mod date;
 mod digits;
 pub mod iso_week;
 pub mod rfc3339;
+mod short_position;
+mod time_fields;
 mod timestamp;
 mod two_digits;
 pub mod webvtt;

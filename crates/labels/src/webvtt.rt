@@ -8,6 +8,7 @@ use crate::cue;
 use crate::digits;
 use crate::digits::COLON;
 use crate::digits::ZERO;
+use crate::short_position;
 use crate::timestamp;
 use crate::timestamp::BEYOND;
 use crate::timestamp::MS_PER_HOUR;
@@ -20,10 +21,10 @@ ghost use mathlib.Core.Path.{_≡_};
 ghost use Prim.Native.Nat.{_+_, _≤_, _<_};
 ghost use mathlib.Core.List.{[], _∷_, _++_};
 ghost use lib.ListN.{length};
-ghost use Rattle.refusal.specs.Outcome.{refused, numberOutcome};
+ghost use Rattle.refusal.specs.Outcome.{value, refused, numberOutcome};
 ghost use Rattle.labels.specs.Written.{writeOutcome, bytesWritten, writtenBuffer};
 ghost use Rattle.labels.specs.Filled.{filled, Begins};
-ghost use Rattle.labels.specs.Webvtt.{hourDigits, clockOf, positionLabel};
+ghost use Rattle.labels.specs.Webvtt.{hourDigits, clockOf, positionText, positionLabel};
 ghost use Rattle.labels.specs.Digits.{digits};
 ghost use Rattle.labels.specs.Clock.{colon};
 ghost use Rattle.labels.specs.Timestamps.{positionAnswer};
@@ -43,6 +44,9 @@ pub enum CueAnswer {
 
 const LAST_POSITION: i64 = 359999999999;
 
+// The last position whose hours have two digits.
+const LAST_SHORT: i64 = 359999999;
+
 // The bytes of a line with the arrow, one blank each side of it, and two timestamps of twelve bytes or of nine.
 const USUAL_LINE: usize = 29;
 
@@ -53,10 +57,35 @@ pub fn write_position(position: i64, out: &mut [u8]) -> WriteAnswer
     ensures answer { λ r. ⌜ writeOutcome r ≡ bytesWritten (positionLabel position) (now (out .entry)) ⌝ }
     ensures buffer { λ r. ⌜ now (out .exit) ≡ writtenBuffer (positionLabel position) (now (out .entry)) ⌝ }
 {
+    // Most positions have two digits of hours.
+    if !numbers::outside(0, LAST_SHORT, position) {
+        return write_short(position as u64, out);
+    }
     if numbers::outside(0, LAST_POSITION, position) {
         return WriteAnswer::Refused(Refusal::PositionOutOfRange);
     }
-    let n = position as u64;
+    write_long(position as u64, out)
+}
+
+// Writes the label of n milliseconds, with two digits of hours. 7 for a buffer shorter than it.
+fn write_short(n: u64, out: &mut [u8]) -> WriteAnswer
+    requires { ⌜ n < 360000000 ⌝ }
+    ensures answer { λ r. ⌜ writeOutcome r ≡ bytesWritten (value (positionText n)) (now (out .entry)) ⌝ }
+    ensures buffer { λ r. ⌜ now (out .exit) ≡ writtenBuffer (value (positionText n)) (now (out .entry)) ⌝ }
+{
+    if out.len() < short_position::LENGTH {
+        return WriteAnswer::Refused(Refusal::BufferTooShort);
+    }
+    short_position::put(out, n);
+    WriteAnswer::Written(short_position::LENGTH)
+}
+
+// The same with more digits of hours.
+fn write_long(n: u64, out: &mut [u8]) -> WriteAnswer
+    requires { ⌜ (360000000 ≤ n) × (n ≤ 359999999999) ⌝ }
+    ensures answer { λ r. ⌜ writeOutcome r ≡ bytesWritten (value (positionText n)) (now (out .entry)) ⌝ }
+    ensures buffer { λ r. ⌜ now (out .exit) ≡ writtenBuffer (value (positionText n)) (now (out .entry)) ⌝ }
+{
     let hours = (n / MS_PER_HOUR) as u32;
     let count = hour_digits(hours);
     let length = count + 10;
@@ -68,22 +97,20 @@ pub fn write_position(position: i64, out: &mut [u8]) -> WriteAnswer
     WriteAnswer::Written(length)
 }
 
-// Writes the digits of the hours and a colon. Bytes behind them and before byte 8 may change.
+// How many digits the hours have, where they are more than two.
+fn hour_digits(hours: u32) -> usize
+    requires { ⌜ 100 ≤ hours ⌝ }
+    ensures { λ r. ⌜ (r ≡ hourDigits hours) × (r ≤ 5) ⌝ }
+{
+    3 + (hours >= 1000) as usize + (hours >= 10000) as usize
+}
+
+// Writes the digits of the hours and a colon: five digits and the colon as one number, of which the digits that are too many are
+// shifted out. Bytes behind them and before byte 8 may change.
 fn put_hours(out: &mut [u8], hours: u32, count: usize)
     requires { ⌜ ((hours < 100000) × (count ≡ hourDigits hours)) × (8 ≤ length (now out)) ⌝ }
     ensures { λ r. ⌜ Begins (digits hours count ++ colon ∷ []) 8 (now (out .entry)) (now (out .exit)) ⌝ }
 {
-    if hours < 100 {
-        buffer::store(
-            out,
-            0,
-            (0x3030 + hours % 10 * 256 + hours / 10) as u64,
-            2,
-            COLON,
-        );
-        return;
-    }
-    // Five digits and the colon, of which the digits that are too many are shifted out.
     let text = COLON as u64 * 0x100_0000_0000
         + digits::four(hours % 10000) * 256
         + (ZERO + hours / 10000) as u64;
@@ -104,22 +131,6 @@ fn put_clock(out: &mut [u8], at: usize, n: u64)
         seconds % SECONDS_PER_MINUTE,
         rest % MS_PER_SECOND,
     );
-}
-
-// How many digits the hours have: two at least.
-fn hour_digits(hours: u32) -> usize
-    ensures { λ r. ⌜ (r ≡ hourDigits hours) × (r ≤ 5) ⌝ }
-{
-    if hours < 100 {
-        return 2;
-    }
-    if hours < 1000 {
-        return 3;
-    }
-    if hours < 10000 {
-        return 4;
-    }
-    5
 }
 
 // The position of a timestamp. 13 for a text of a wrong shape, then 6 for a position above the limit.

@@ -1,33 +1,10 @@
 use Prim.Native.Nat.{_%_}
-use Rattle.labels.proofs.DigitWords.{four-below}
 use native.Mathlib.Omega.{arith}
-use Rattle.labels.proofs.Positions.{two-to-five, few-hours, many-hours}
+use Rattle.labels.proofs.DigitWords.{four-below}
+use Rattle.labels.proofs.Positions.{two-to-five, hours-begin}
 use borrow.Author.Needs.{needs}
 use Rattle.labels.proofs.webvtt.put_hours.Statement.{statement}
 use Rattle.labels.proofs.webvtt.put_hours.Tie as tie
-
-mul-store : tie.Need-mul-store
-mul-store c = search needs
-
-add-store : tie.Need-add-store
-add-store c = search needs
-
-add-store-2 : tie.Need-add-store-2
-add-store-2 c = search needs
-
-cast-store : tie.Need-cast-store
-cast-store c = search needs
-
-store-requires : tie.Need-store-requires
-store-requires c κs = search needs
-
-same-length : tie.Need-same-length
-same-length c = search needs
-
-returns : tie.Need-returns
-returns c =
-    let s = c .before .before .before .before .before .before in
-    few-hours (s .args .hours) (s .pre .0 .1) (s .args .out .now) (s .pre .1) (c .before .before .before .before .if1 .taken) (c .before .before .store .ensures)
 
 cast-text : tie.Need-cast-text
 cast-text c = search needs
@@ -51,39 +28,32 @@ cast-text-2 : tie.Need-cast-text-2
 cast-text-2 c = search needs
 
 add-text-3 : tie.Need-add-text-3
-add-text-3 c = omega (arith, four-below (c .before .before .before .args .hours % 10000) (c .four .ensures))
+add-text-3 c = omega (arith, four-below (c .before .before .args .hours % 10000) (c .four .ensures))
 
 sub-store : tie.Need-sub-store
-sub-store c = omega (arith, two-to-five (c .before .before .before .before .args .hours))
+sub-store c = omega (arith, two-to-five (c .before .before .before .args .hours))
 
-mul-store-2 : tie.Need-mul-store-2
-mul-store-2 c = search needs
+mul-store : tie.Need-mul-store
+mul-store c = search needs
 
 shr-store : tie.Need-shr-store
 shr-store c = search needs
 
-store-requires-2 : tie.Need-store-requires-2
-store-requires-2 c κs = search needs
+store-requires : tie.Need-store-requires
+store-requires c κs = search needs
 
-same-length-2 : tie.Need-same-length-2
-same-length-2 c = search needs
+same-length : tie.Need-same-length
+same-length c = search needs
 
-returns-2 : tie.Need-returns-2
-returns-2 c =
-    let s = c .before .before .before .before .before .before .before in
-    many-hours (s .args .hours) (s .pre .0 .1) (s .args .out .now) (s .pre .1) (s .pre .0 .0) (c .before .before .before .before .four .ensures) (c .before .before .store2 .ensures)
+returns : tie.Need-returns
+returns c =
+    let s = c .before .before .before .before .before .before in
+    hours-begin (s .args .hours) (s .pre .0 .1) (s .args .out .now) (s .pre .1) (s .pre .0 .0) (c .before .before .before .before .four .ensures) (c .before .before .store .ensures)
 
 pub put-hours-spec : {M : Type 1} → statement M
 put-hours-spec =
     tie.close
     (tie.spec
-    mul-store
-    add-store
-    add-store-2
-    cast-store
-    store-requires
-    same-length
-    returns
     cast-text
     mul-text
     four-requires
@@ -93,8 +63,8 @@ put-hours-spec =
     cast-text-2
     add-text-3
     sub-store
-    mul-store-2
+    mul-store
     shr-store
-    store-requires-2
-    same-length-2
-    returns-2)
+    store-requires
+    same-length
+    returns)

@@ -1,84 +1,91 @@
+use mathlib.Core.Path.{_≡_}
+use mathlib.Core.Bool.{false}
 use native.Mathlib.Omega.{arith}
-use lib.IntN.{pos, natAbs}
+use borrow.Author.Tests.{not-true, not-false}
+use lib.IntN.{pos}
+use Rattle.numbers.specs.Range.{outside}
 use Rattle.numbers.proofs.Between.{natural-within, cast-within}
-use Rattle.numbers.proofs.Machine.{read, answered}
-use Rattle.labels.specs.Webvtt.{lastPosition, positionText}
-use Rattle.labels.proofs.Writing.{renamed, nothing-written, no-room, all-written}
-use Rattle.labels.proofs.Positions.{out-of-range, labelled, in-range, length-position, clock-behind}
+use Rattle.numbers.proofs.Machine.{answered}
+use Rattle.labels.specs.Webvtt.{lastPosition}
+use Rattle.labels.proofs.Writing.{renamed, nothing-written}
+use Rattle.labels.proofs.Positions.{lastShort, out-of-range, labelled, in-range, short-in-range, short-below, long-above}
 use borrow.Author.Needs.{needs}
 use Rattle.labels.proofs.webvtt.write_position.Statement.{statement}
 use Rattle.labels.proofs.webvtt.write_position.Tie as tie
 
+-- the answers of the two tests
+is-short : (c : tie.Then1) → outside (pos 0) lastShort (c .before .before .before .args .position) ≡ false
+is-short c =
+    let s = c .before .before .before in
+    answered (pos 0) lastShort (s .fits .position) (c .before .outside .ensures) (not-true _ (c .if1 .taken))
+
 outside-requires : tie.Need-outside-requires
 outside-requires c κs = search needs
 
-returns : tie.Need-returns
-returns c =
+cast-write-short : tie.Need-cast-write-short
+cast-write-short c =
     let s = c .before .before .before in
-    nothing-written (s .args .out .now) (out-of-range (s .fits .position) (answered (pos 0) lastPosition (s .fits .position) (c .before .outside .ensures) (c .if1 .taken)))
+    cast-within (s .fits .position) (natural-within 0 lastShort (s .args .position) (is-short c))
 
-cast-n : tie.Need-cast-n
-cast-n c =
-    let s = c .before .before .before in
-    let h = answered (pos 0) lastPosition (s .fits .position) (c .before .outside .ensures) (c .if1 .left) in
-    cast-within (s .fits .position) (natural-within 0 lastPosition (s .args .position) h)
-
-cast-hours : tie.Need-cast-hours
-cast-hours c =
-    let s = c .before .before .before in
-    omega (arith, in-range (s .fits .position) (answered (pos 0) lastPosition (s .fits .position) (c .before .outside .ensures) (c .if1 .left)))
-
-hour-digits-requires : tie.Need-hour-digits-requires
-hour-digits-requires c κs = search needs
-
-add-length : tie.Need-add-length
-add-length c = search needs
-
-returns-2 : tie.Need-returns-2
-returns-2 c =
-    let s = c .before .before .before .before .before in
-    let n = natAbs (read (s .args .position)) in
-    let h = answered (pos 0) lastPosition (s .fits .position) (c .before .before .before .outside .ensures) (c .before .before .if1 .left) in
-    renamed (s .args .out .now) (labelled (s .fits .position) h)
-    (no-room (positionText n) (s .args .out .now) (omega (arith, length-position n, c .before .hour-digits .ensures .0)))
-
-put-hours-requires : tie.Need-put-hours-requires
-put-hours-requires c κs =
-    let s = c .before .before .before .before .before .before in
-    ((omega (arith, in-range (s .fits .position) (answered (pos 0) lastPosition (s .fits .position) (c .before .before .before .before .outside .ensures) (c .before .before .before .if1 .left))), c .before .before .hour-digits .ensures .0), omega arith)
-
-add-put-clock : tie.Need-add-put-clock
-add-put-clock c = search needs
-
-put-clock-requires : tie.Need-put-clock-requires
-put-clock-requires c κs = search needs
+write-short-requires : tie.Need-write-short-requires
+write-short-requires c κs = short-below (c .before .before .before .before .fits .position) (is-short (c .before))
 
 same-length : tie.Need-same-length
 same-length c = search needs
 
+returns : tie.Need-returns
+returns c =
+    let t = c .before .before .before .before in
+    let s = t .before .before .before in
+    renamed (s .args .out .now) (labelled (s .fits .position) (short-in-range (s .fits .position) (is-short t))) (c .before .before .write-short .ensures)
+
+outside-requires-2 : tie.Need-outside-requires-2
+outside-requires-2 c κs = search needs
+
+returns-2 : tie.Need-returns-2
+returns-2 c =
+    let s = c .before .before .before .before .before in
+    nothing-written (s .args .out .now)
+    (out-of-range (s .fits .position) (answered (pos 0) lastPosition (s .fits .position) (c .before .outside2 .ensures) (c .if2 .taken)))
+
+in-the-range : (c : tie.Else2) → outside (pos 0) lastPosition (c .before .before .before .before .before .args .position) ≡ false
+in-the-range c =
+    let s = c .before .before .before .before .before in
+    answered (pos 0) lastPosition (s .fits .position) (c .before .outside2 .ensures) (c .if2 .left)
+
+cast-write-long : tie.Need-cast-write-long
+cast-write-long c =
+    let s = c .before .before .before .before .before in
+    cast-within (s .fits .position) (natural-within 0 lastPosition (s .args .position) (in-the-range c))
+
+write-long-requires : tie.Need-write-long-requires
+write-long-requires c κs =
+    let e = c .before in
+    let s = e .before .before .before .before .before in
+    let long = answered (pos 0) lastShort (s .fits .position) (e .before .before .before .outside .ensures) (not-false _ (e .before .before .if1 .left)) in
+    (long-above (s .fits .position) long (in-the-range e), in-range (s .fits .position) (in-the-range e))
+
+same-length-2 : tie.Need-same-length-2
+same-length-2 c = search needs
+
 returns-3 : tie.Need-returns-3
 returns-3 c =
-    let s = c .before .before .before .before .before .before .before .before .before .before .before .before .before in
-    let n = natAbs (read (s .args .position)) in
-    let d = c .before .before .before .before .before .before .before .before .before .hour-digits .ensures .0 in
-    let l = length-position n in
-    renamed (s .args .out .now) (labelled (s .fits .position) (answered (pos 0) lastPosition (s .fits .position) (c .before .before .before .before .before .before .before .before .before .before .before .outside .ensures) (c .before .before .before .before .before .before .before .before .before .before .if1 .left)))
-    (all-written (positionText n) (s .args .out .now) (omega arith) (omega arith)
-    (clock-behind n (s .args .out .now) d (c .before .before .before .before .before .before .put-hours .ensures) (c .before .before .before .before .before .out .given) (omega arith) (c .before .before .put-clock .ensures)))
+    let e = c .before .before .before .before in
+    let s = e .before .before .before .before .before in
+    renamed (s .args .out .now) (labelled (s .fits .position) (in-the-range e)) (c .before .before .write-long .ensures)
 
 pub write-position-spec : {M : Type 1} → statement M
 write-position-spec =
     tie.close
     (tie.spec
     outside-requires
-    returns
-    cast-n
-    cast-hours
-    hour-digits-requires
-    add-length
-    returns-2
-    put-hours-requires
-    add-put-clock
-    put-clock-requires
+    cast-write-short
+    write-short-requires
     same-length
+    returns
+    outside-requires-2
+    returns-2
+    cast-write-long
+    write-long-requires
+    same-length-2
     returns-3)

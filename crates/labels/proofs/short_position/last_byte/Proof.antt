@@ -1,0 +1,53 @@
+use Prim.Native.Nat.{ℕ, _+_, _*_}
+use mathlib.Core.Path.{_≡_, sym, ap, _∙_}
+use mathlib.Core.List.{List, [], _∷_}
+use native.Mathlib.Omega.{arith}
+use Rattle.labels.specs.Words.{partOf}
+use Rattle.labels.specs.PositionPieces.{shortText}
+use borrow.Author.Needs.{needs}
+use Rattle.labels.proofs.short_position.last_byte.Statement.{statement}
+use Rattle.labels.proofs.short_position.last_byte.Tie as tie
+
+-- the last byte of a piece, by its place
+abbrev end-of : tie.Start → ℕ → List ℕ
+end-of s i = partOf (3 * i + 2) 1 (shortText (s .args .minutes) (s .args .rest))
+
+last-digit-requires : tie.Need-last-digit-requires
+last-digit-requires c κs = search needs
+
+cast-result : tie.Need-cast-result
+cast-result c = search needs
+
+add-result : tie.Need-add-result
+add-result c = search needs
+
+cast-result-2 : tie.Need-cast-result-2
+cast-result-2 c = search needs
+
+returns : tie.Need-returns
+returns c = (omega arith, sym (ap (end-of (c .before)) (c .match .keys1)))
+
+returns-2 : tie.Need-returns-2
+returns-2 c = (omega arith, sym (ap (end-of (c .before)) (c .match .keys2)))
+
+returns-3 : tie.Need-returns-3
+returns-3 c = (omega arith, sym (ap (end-of (c .before)) (c .match .keys3)))
+
+returns-4 : tie.Need-returns-4
+returns-4 c =
+    let s = c .before .before in
+    let third : s .args .i ≡ 3 = omega (arith, s .pre .0, c .before .match .rest) in
+    (omega (arith, c .last-digit .ensures), ap (λ d. (48 + d) ∷ []) (c .last-digit .ensures) ∙ sym (ap (end-of s) third))
+
+pub last-byte-spec : {M : Type 1} → statement M
+last-byte-spec =
+    tie.close
+    (tie.spec
+    last-digit-requires
+    cast-result
+    add-result
+    cast-result-2
+    returns
+    returns-2
+    returns-3
+    returns-4)

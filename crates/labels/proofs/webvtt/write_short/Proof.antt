@@ -1,0 +1,27 @@
+use native.Mathlib.Omega.{arith}
+use Rattle.labels.specs.Webvtt.{positionText}
+use Rattle.labels.proofs.Writing.{no-room, all-written}
+use Rattle.labels.proofs.Positions.{short-length}
+use borrow.Author.Needs.{needs}
+use Rattle.labels.proofs.webvtt.write_short.Statement.{statement}
+use Rattle.labels.proofs.webvtt.write_short.Tie as tie
+
+returns : tie.Need-returns
+returns c =
+    let s = c .before .before in
+    no-room (positionText (s .args .n)) (s .args .out .now) (omega (arith, short-length (s .args .n) (s .pre), c .if1 .taken))
+
+put-requires : tie.Need-put-requires
+put-requires c κs = search needs
+
+same-length : tie.Need-same-length
+same-length c = search needs
+
+returns-2 : tie.Need-returns-2
+returns-2 c =
+    let s = c .before .before .before .before .before .before in
+    let l = short-length (s .args .n) (s .pre) in
+    all-written (positionText (s .args .n)) (s .args .out .now) (omega (arith, l, c .before .before .before .before .if1 .left)) (omega (arith, l)) (c .before .before .put .ensures)
+
+pub write-short-spec : {M : Type 1} → statement M
+write-short-spec = tie.close (tie.spec returns put-requires same-length returns-2)
