@@ -14,12 +14,6 @@ use Rattle.calendar.proofs.Dates.{day-small, year-day, checked-value, c
 use Rattle.calendar.proofs.day_of_year.Statement.{statement}
 use Rattle.calendar.proofs.day_of_year.Tie as tie
 
-check-date-requires : tie.Need-check-date-requires
-check-date-requires c κs = search needs
-
-enum-known-y : tie.Need-enum-known-y
-enum-known-y c = search needs
-
 in-range : (c : tie.After-known-told) → let g = c .before .y .given .0 in InRange (g .0) (g .1 .0) (g .1 .1 .0)
 in-range c = subst CheckedInRange (c .before .y .given .1) (c .before .before .before .check-date .ensures .1)
 
@@ -28,12 +22,6 @@ days-before-month-requires c κs = let v = in-range c .is-valid in (v .month-low
 
 add-t11 : tie.Need-add-t11
 add-t11 c = record { fits = omega (arith, c .days-before-month .ensures .1, day-small _ _ _ (in-range (c .before) .is-valid)) }
-
-cast-t12 : tie.Need-cast-t12
-cast-t12 c = search needs
-
-enum-known-r : tie.Need-enum-known-r
-enum-known-r c = search needs
 
 returns : tie.Need-returns
 unfolding dayOfYearAnswer
@@ -58,11 +46,11 @@ pub day-of-year-spec : {M : Type 1} → statement M
 day-of-year-spec =
     tie.close
     (tie.spec
-    check-date-requires
-    enum-known-y
+    (λ c κs. search needs)
+    (λ c. search needs)
     days-before-month-requires
     add-t11
-    cast-t12
-    enum-known-r
+    (λ c. search needs)
+    (λ c. search needs)
     returns
     returns-2)

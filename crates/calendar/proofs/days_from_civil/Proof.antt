@@ -12,26 +12,14 @@ use Rattle.calendar.proofs.Dates.{count-base, checked-value, checked-re
 use Rattle.calendar.proofs.days_from_civil.Statement.{statement}
 use Rattle.calendar.proofs.days_from_civil.Tie as tie
 
-check-date-requires : tie.Need-check-date-requires
-check-date-requires c κs = search needs
-
-enum-known-y : tie.Need-enum-known-y
-enum-known-y c = search needs
-
 in-range : (c : tie.After-known-told) → let g = c .before .y .given .0 in InRange (g .0) (g .1 .0) (g .1 .1 .0)
 in-range c = subst CheckedInRange (c .before .y .given .1) (c .before .before .before .check-date .ensures .1)
 
 days-since-base-requires : tie.Need-days-since-base-requires
 days-since-base-requires c κs = in-range c
 
-cast-t11 : tie.Need-cast-t11
-cast-t11 c = search needs
-
 add-t12 : tie.Need-add-t12
 add-t12 c = let l = c .days-since-base .ensures .1 .1 in add-first baseCount (c .days-since-base .result) (omega arith)
-
-enum-known-r : tie.Need-enum-known-r
-enum-known-r c = search needs
 
 returns : tie.Need-returns
 unfolding daysAnswer
@@ -55,11 +43,11 @@ pub days-from-civil-spec : {M : Type 1} → statement M
 days-from-civil-spec =
     tie.close
     (tie.spec
-    check-date-requires
-    enum-known-y
+    (λ c κs. search needs)
+    (λ c. search needs)
     days-since-base-requires
-    cast-t11
+    (λ c. search needs)
     add-t12
-    enum-known-r
+    (λ c. search needs)
     returns
     returns-2)

@@ -20,29 +20,8 @@ date-word c = (omega arith, (refl, search needs))
 abbrev start : tie.After-read-values-arg2 → tie.Start
 start c = c .before .before .before .before .before
 
-four-bytes-requires : tie.Need-four-bytes-requires
-four-bytes-requires c κs = search needs
-
-eight-bytes-requires : tie.Need-eight-bytes-requires
-eight-bytes-requires c κs = search needs
-
-slice-aggregate-read-values : tie.Need-slice-aggregate-read-values
-slice-aggregate-read-values c = search needs
-
-slice-aggregate-read-values-2 : tie.Need-slice-aggregate-read-values-2
-slice-aggregate-read-values-2 c = search needs
-
 read-values-requires : tie.Need-read-values-requires
 read-values-requires c κs = (year-word c, date-word c)
-
-enum-known-year : tie.Need-enum-known-year
-enum-known-year c = search needs
-
-enum-told : tie.Need-enum-told
-enum-told c = search needs
-
-malformed-requires : tie.Need-malformed-requires
-malformed-requires c κs = search needs
 
 -- what the two numbers tell of the label
 read-both : (c : tie.After-known-told) → let label = start (c .before .before .before .before) .args .label .now in
@@ -66,35 +45,14 @@ returns c =
 pair-requires : tie.Need-pair-requires
 pair-requires c κs = (read-both c .0 .small, omega arith)
 
-cast-read-time : tie.Need-cast-read-time
-cast-read-time c = search needs
-
 pair-requires-2 : tie.Need-pair-requires-2
 pair-requires-2 c κs = (read-both (c .before) .1 .small, omega arith)
-
-cast-read-time-2 : tie.Need-cast-read-time-2
-cast-read-time-2 c = search needs
 
 pair-requires-3 : tie.Need-pair-requires-3
 pair-requires-3 c κs = (read-both (c .before .before) .1 .small, omega arith)
 
-cast-read-time-3 : tie.Need-cast-read-time-3
-cast-read-time-3 c = search needs
-
 pair-requires-4 : tie.Need-pair-requires-4
 pair-requires-4 c κs = (read-both (c .before .before .before) .1 .small, omega arith)
-
-cast-read-time-4 : tie.Need-cast-read-time-4
-cast-read-time-4 c = search needs
-
-sub-read-time : tie.Need-sub-read-time
-sub-read-time c = search needs
-
-part-read-time-start : tie.Need-part-read-time-start
-part-read-time-start c = search needs
-
-part-read-time-end : tie.Need-part-read-time-end
-part-read-time-end c = search needs
 
 read-time-requires : tie.Need-read-time-requires
 read-time-requires c κs =
@@ -121,4 +79,4 @@ returns-2 c =
     ∙ date-read label (g .0) (g .1 .0) (s .pre) (r .0) (r .1)
 
 pub read-date-spec : {M : Type 1} → statement M
-read-date-spec = tie.close (tie.spec four-bytes-requires eight-bytes-requires slice-aggregate-read-values slice-aggregate-read-values-2 read-values-requires enum-known-year enum-told malformed-requires returns pair-requires cast-read-time pair-requires-2 cast-read-time-2 pair-requires-3 cast-read-time-3 pair-requires-4 cast-read-time-4 sub-read-time part-read-time-start part-read-time-end read-time-requires returns-2)
+read-date-spec = tie.close (tie.spec (λ c κs. search needs) (λ c κs. search needs) (λ c. search needs) (λ c. search needs) read-values-requires (λ c. search needs) (λ c. search needs) (λ c κs. search needs) returns pair-requires (λ c. search needs) pair-requires-2 (λ c. search needs) pair-requires-3 (λ c. search needs) pair-requires-4 (λ c. search needs) (λ c. search needs) (λ c. search needs) (λ c. search needs) read-time-requires returns-2)

@@ -20,32 +20,11 @@ fraction-word c = (omega arith, (refl, search needs))
 abbrev start : tie.After-read-values-arg2 → tie.Start
 start c = c .before .before .before .before .before .before .before .before .before .before .before
 
-shared-slice-read-is-letter : tie.Need-shared-slice-read-is-letter
-shared-slice-read-is-letter c = search needs
-
-is-letter-requires : tie.Need-is-letter-requires
-is-letter-requires c κs = search needs
-
-malformed-requires : tie.Need-malformed-requires
-malformed-requires c κs = search needs
-
 returns : tie.Need-returns
 returns c =
     let s = c .before .before .before .before .before in
     let a = s .args in
     c .malformed .ensures ∙ wrong-first (a .part .now) (s .pre .1) (100 * a .century + a .year) (a .month) (a .day) (sym (c .before .before .is-letter .ensures) ∙ not-true (c .before .before .is-letter .result) (c .before .if1 .taken))
-
-add-is-letter : tie.Need-add-is-letter
-add-is-letter c = search needs
-
-shared-slice-read-is-letter-2 : tie.Need-shared-slice-read-is-letter-2
-shared-slice-read-is-letter-2 c = search needs
-
-is-letter-requires-2 : tie.Need-is-letter-requires-2
-is-letter-requires-2 c κs = search needs
-
-malformed-requires-2 : tie.Need-malformed-requires-2
-malformed-requires-2 c κs = search needs
 
 returns-2 : tie.Need-returns-2
 returns-2 c =
@@ -53,29 +32,8 @@ returns-2 c =
     let a = s .args in
     c .malformed2 .ensures ∙ wrong-last (a .part .now) (s .pre .1) (100 * a .century + a .year) (a .month) (a .day) (sym (c .before .before .is-letter2 .ensures) ∙ not-true (c .before .before .is-letter2 .result) (c .before .if2 .taken))
 
-eight-bytes-requires : tie.Need-eight-bytes-requires
-eight-bytes-requires c κs = search needs
-
-four-bytes-requires : tie.Need-four-bytes-requires
-four-bytes-requires c κs = search needs
-
-slice-aggregate-read-values : tie.Need-slice-aggregate-read-values
-slice-aggregate-read-values c = search needs
-
-slice-aggregate-read-values-2 : tie.Need-slice-aggregate-read-values-2
-slice-aggregate-read-values-2 c = search needs
-
 read-values-requires : tie.Need-read-values-requires
 read-values-requires c κs = (clock-word c, fraction-word c)
-
-enum-known-clock : tie.Need-enum-known-clock
-enum-known-clock c = search needs
-
-enum-told : tie.Need-enum-told
-enum-told c = search needs
-
-malformed-requires-3 : tie.Need-malformed-requires-3
-malformed-requires-3 c κs = search needs
 
 -- what the two numbers tell of the part
 read-both : (c : tie.After-known-told) → let part = start (c .before .before .before .before) .args .part .now in
@@ -115,4 +73,4 @@ returns-4 c =
     (sym (k .before .before .before .before .before .before .before .before .is-letter .ensures) ∙ not-false (k .before .before .before .before .before .before .before .before .is-letter .result) (k .before .before .before .before .before .before .before .if1 .left)) (sym (k .before .before .before .before .before .is-letter2 .ensures) ∙ not-false (k .before .before .before .before .before .is-letter2 .result) (k .before .before .before .before .if2 .left)) (r .0) (r .1)
 
 pub read-time-spec : {M : Type 1} → statement M
-read-time-spec = tie.close (tie.spec shared-slice-read-is-letter is-letter-requires malformed-requires returns add-is-letter shared-slice-read-is-letter-2 is-letter-requires-2 malformed-requires-2 returns-2 eight-bytes-requires four-bytes-requires slice-aggregate-read-values slice-aggregate-read-values-2 read-values-requires enum-known-clock enum-told malformed-requires-3 returns-3 join-requires returns-4)
+read-time-spec = tie.close (tie.spec (λ c. search needs) (λ c κs. search needs) (λ c κs. search needs) returns (λ c. search needs) (λ c. search needs) (λ c κs. search needs) (λ c κs. search needs) returns-2 (λ c κs. search needs) (λ c κs. search needs) (λ c. search needs) (λ c. search needs) read-values-requires (λ c. search needs) (λ c. search needs) (λ c κs. search needs) returns-3 join-requires returns-4)

@@ -1,6 +1,5 @@
 -- Each case returns, and leaves in the place, what its outcome says.
 use mathlib.Core.Path.{refl, sym, ap}
-use denote.Ref.{now}
 use Rattle.calendar.specs.Answers.{dateOutcome}
 use Rattle.player.specs.Returned.{dateNumbers}
 use Rattle.player.proofs.Answered.{as-read, cons-read, placed}
@@ -9,16 +8,11 @@ use Rattle.player.proofs.give.date.Tie as tie
 
 returns : tie.Need-returns
 returns c =
-    let s = c .before .before .before .before .before in
-    let same = ap dateOutcome (sym (c .before .before .before .answer .given .1)) in
     let t = c .before .struct-told .given in
-    placed same dateNumbers (now (s .args .place)) (refl, cons-read (t .0 .1) (cons-read (t .1 .0 .1) (cons-read (t .1 .1 .0 .1) refl)))
+    placed (ap dateOutcome (sym (c .before .before .before .answer .given .1))) dateNumbers _ (refl, cons-read (t .0 .1) (cons-read (t .1 .0 .1) (cons-read (t .1 .1 .0 .1) refl)))
 
 returns-2 : tie.Need-returns-2
-returns-2 c =
-    let s = c .before .before .before .before in
-    let same = ap dateOutcome (sym (c .before .before .answer2 .given .1)) in
-    placed same dateNumbers (now (s .args .place)) (as-read (c .negated .ok) (c .negated .ensures), refl)
+returns-2 c = placed (ap dateOutcome (sym (c .before .before .answer2 .given .1))) dateNumbers _ (as-read (c .negated .ok) (c .negated .ensures), refl)
 
 pub date-spec : {M : Type 1} → statement M
 date-spec =

@@ -1,6 +1,5 @@
 -- Each case returns, and leaves in the place, what its outcome says.
 use mathlib.Core.Path.{refl, sym, ap}
-use denote.Ref.{now}
 use Rattle.instant.specs.Answers.{fieldsOutcome}
 use Rattle.player.specs.Returned.{fieldsNumbers}
 use Rattle.player.proofs.Answered.{as-read, cons-read, placed}
@@ -9,16 +8,11 @@ use Rattle.player.proofs.give.fields.Tie as tie
 
 returns : tie.Need-returns
 returns c =
-    let s = c .before .before .before .before .before in
-    let same = ap fieldsOutcome (sym (c .before .before .before .answer .given .1)) in
     let t = c .before .struct-told .given in
-    placed same fieldsNumbers (now (s .args .place)) (refl, cons-read (t .0 .1) (cons-read (t .1 .0 .1) (cons-read (t .1 .1 .0 .1) (cons-read (t .1 .1 .1 .0 .1) (cons-read (t .1 .1 .1 .1 .0 .1) (cons-read (t .1 .1 .1 .1 .1 .0 .1) (cons-read (t .1 .1 .1 .1 .1 .1 .0 .1) refl)))))))
+    placed (ap fieldsOutcome (sym (c .before .before .before .answer .given .1))) fieldsNumbers _ (refl, cons-read (t .0 .1) (cons-read (t .1 .0 .1) (cons-read (t .1 .1 .0 .1) (cons-read (t .1 .1 .1 .0 .1) (cons-read (t .1 .1 .1 .1 .0 .1) (cons-read (t .1 .1 .1 .1 .1 .0 .1) (cons-read (t .1 .1 .1 .1 .1 .1 .0 .1) refl)))))))
 
 returns-2 : tie.Need-returns-2
-returns-2 c =
-    let s = c .before .before .before .before in
-    let same = ap fieldsOutcome (sym (c .before .before .answer2 .given .1)) in
-    placed same fieldsNumbers (now (s .args .place)) (as-read (c .negated .ok) (c .negated .ensures), refl)
+returns-2 c = placed (ap fieldsOutcome (sym (c .before .before .answer2 .given .1))) fieldsNumbers _ (as-read (c .negated .ok) (c .negated .ensures), refl)
 
 pub fields-spec : {M : Type 1} → statement M
 fields-spec =
