@@ -22,7 +22,7 @@ use Rattle.numbers.proofs.Quotients.{remainder-add}
 use Rattle.calendar.specs.declared.Date.{Date}
 use Rattle.calendar.specs.Range.{firstYear, lastYear, firstCount, lastCount}
 use Rattle.calendar.specs.Gregorian.{divides, leapYear, monthLengths, monthLength, daysBefore, dateOf, nextDay, dateAfter, ValidDate, Earlier, by-year, by-month, by-day}
-use Rattle.calendar.specs.Count.{dateOfCount, countOfDate, weekday, sum, dayOfYear}
+use Rattle.calendar.specs.Count.{dateOfCount, countOfDate, weekday, documentNumber, sum, dayOfYear}
 use Rattle.calendar.specs.Answers.{daysAnswer, civilAnswer, addDaysAnswer}
 use Rattle.calendar.specs.Closed.{fromYear, toYear, baseYear, cycle, lastDay, leapDay, leapℕ, leaps, start, monthDays, before, Valid, InRange, dayNumber, public}
 use Rattle.calendar.proofs.Leap.{leap-public}
@@ -110,6 +110,15 @@ next-count-is-next-day z h =
     ap dateAfter
     (ap (λ z. since firstCount (z +ℤ pos 1)) (sym (f .0)) ∙ ap (since firstCount) (+ℤ-assoc firstCount (pos (since firstCount z)) (pos 1))
     ∙ since-add firstCount (since firstCount z + 1) ∙ add-one (since firstCount z))
+
+-- and the next day has the next count
+pub next-day-has-next-count :
+    (year month day z : ℤ) → daysAnswer year month day ≡ value z → outside firstCount lastCount (z +ℤ pos 1) ≡ false →
+    let next = nextDay (dateOf year month day) in
+    daysAnswer (next .year) (next .month) (next .day) ≡ value (z +ℤ pos 1)
+next-day-has-next-count year month day z e h =
+    let next = next-count-is-next-day z (days-inside year month day z (sym e)) ∙ ap nextDay (date-of-days year month day z e) in
+    ap (λ (d : Date). daysAnswer (d .year) (d .month) (d .day)) (sym next) ∙ days-of-date-of-count (z +ℤ pos 1) h
 
 -- an earlier date has a smaller count, and the other way round
 up : (y m d y′ m′ d′ : ℕ) → Precedes y m d y′ m′ d′ → Earlier (public y m d) (public y′ m′ d′)
@@ -207,10 +216,6 @@ unfolding weekday
 weekday-moves-by-one z =
     let b = weekday-between z in
     weekday-after z 1 ∙ by-equality (natAbs (weekday z)) 7 _ _ _ (λ e. ap pos (omega (arith, e))) (λ e. ap pos (omega (arith, b .1, e)))
-
--- document 01's number of the weekday, 0 Sunday to 6 Saturday, for the two theorems below
-abbrev pub documentNumber : ℤ → ℕ
-documentNumber z = floorRemainder (z +ℤ pos 4) 7
 
 -- modulo 7 the two numbers are the same
 pub weekday-modulo-seven : (z : ℤ) → floorRemainder (weekday z) 7 ≡ documentNumber z

@@ -31,6 +31,10 @@ countOfDate d = firstCount +ℤ pos (daysUntil (since firstCount lastCount) firs
 unfoldable pub weekday : ℤ → ℤ
 weekday z = pos (floorRemainder (z +ℤ pos 3) 7 + 1)
 
+-- document 01's number of it, 0 Sunday to 6 Saturday, which theorems alone name
+abbrev pub documentNumber : ℤ → ℕ
+documentNumber z = floorRemainder (z +ℤ pos 4) 7
+
 abbrev pub sum : List ℕ → ℕ
 sum [] = 0
 sum (n ∷ ns) = n + sum ns

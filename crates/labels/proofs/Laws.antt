@@ -17,6 +17,7 @@ use Rattle.refusal.proofs.Outcomes.{clash, same-value}
 use Rattle.calendar.specs.Range.{firstYear, lastYear}
 use Rattle.calendar.specs.Gregorian.{monthLength, dateOf}
 use Rattle.calendar.specs.Answers.{ofDate}
+use Rattle.calendar.proofs.Centuries as Centuries
 use Rattle.instant.specs.Instant.{fieldsOf, timeOfFields, instantAt}
 use Rattle.instant.specs.Answers.{badInstant, badTime, splitAnswer, joinAnswer}
 use Rattle.instant.specs.declared.Fields.{Fields}
@@ -166,7 +167,7 @@ label-bytes = refl
 year-inside : (label : List ℕ) → fits (dateShape ++ timeShape decimals) label ≡ true → outside firstYear lastYear (pos (numberAt 0 4 label)) ≡ false
 year-inside label h =
     let b = number-below (numberAt 0 4 label) 4 in
-    inside-pos 0 (natAbs lastYear) (numberAt 0 4 label) (omega arith) (omega (arith, ap (numberAt 0 4) (date-back (timeShape decimals) label h .0)))
+    Centuries.year-inside (numberAt 0 4 label) 0 0 (omega (arith, ap (numberAt 0 4) (date-back (timeShape decimals) label h .0)))
 
 -- the refusals of fields, one after the other
 by-refusal :

@@ -89,7 +89,7 @@ text-back label h =
 year-inside : (label : List ℕ) → fits weekShape label ≡ true → outside firstLabelYear lastLabelYear (pos (numberAt 0 4 label)) ≡ false
 unfolding weekText
 year-inside label h =
-    inside-pos 0 9999 (numberAt 0 4 label) (omega arith) (omega (arith, number-below (numberAt 0 4 label) 4, ap (numberAt 0 4) (text-back label h)))
+    inside-pos 0 (natAbs lastLabelYear) (numberAt 0 4 label) (omega arith) (omega (arith, number-below (numberAt 0 4 label) 4, ap (numberAt 0 4) (text-back label h)))
 
 -- an accepted label has the shape, and its numbers make the day
 accepted : (label : List ℕ) (days : ℤ) → readWeekAnswer label ≡ value days →
@@ -117,7 +117,8 @@ read-write-week label days e =
 week-year : (label : List ℕ) → fits weekShape label ≡ true → outside firstWeekYear lastWeekYear (pos (numberAt 0 4 label)) ≡ false
 week-year label h =
     let t = outside-no firstLabelYear lastLabelYear (pos (numberAt 0 4 label)) (year-inside label h) in
-    not-outside firstWeekYear lastWeekYear (pos (numberAt 0 4 label)) (not-below-trans (pos (numberAt 0 4 label)) firstLabelYear firstWeekYear (t .0) refl) (t .1)
+    not-outside firstWeekYear lastWeekYear (pos (numberAt 0 4 label)) (not-below-trans (pos (numberAt 0 4 label)) firstLabelYear firstWeekYear (t .0) refl)
+    (not-below-trans lastWeekYear lastLabelYear (pos (numberAt 0 4 label)) refl (t .1))
 
 numbers-refusal : (label : List ℕ) → fits weekShape label ≡ true → (n : ℕ) → readNumbers label ≡ refused n → (n ≡ 16) ⊎ (n ≡ 4)
 numbers-refusal label h n e = week-refusal (pos (numberAt 0 4 label)) (week-year label h) (pos (numberAt 6 2 label)) (pos (numberAt 9 1 label)) n e

@@ -1,7 +1,8 @@
 -- The laws of the follower: its answers by the step, the true positions given back, refused values, batches, milliseconds.
 use Prim.Native.Nat.{ℕ, _+_, _*_, _≤_}
 use mathlib.Core.Path.{_≡_, refl, sym, ap, ap₂, _∙_}
-use mathlib.Core.Bool.{false, cond}
+use mathlib.Core.Bool.{Bool, true, false, cond}
+use mathlib.Core.Logic.{_↔_}
 use mathlib.Core.List.{List, [], _∷_, _++_, map, foldl, foldl-append}
 use native.Mathlib.Nat.{mod-eq-of-lt}
 use native.Mathlib.Omega.{arith}
@@ -10,7 +11,7 @@ use lib.IntN.{ℤ, pos, _+ℤ_, _-ℤ_}
 use lib.ListN.{length}
 use lib.Signed.{ltZ}
 use Rattle.refusal.specs.Outcome.{Outcome, value, refused, refusedAt, afterCall}
-use Rattle.refusal.proofs.Outcomes.{passes, same-value}
+use Rattle.refusal.proofs.Outcomes.{clash, passes, same-value}
 use Rattle.numbers.specs.Floor.{floorRemainder}
 use Rattle.numbers.specs.Range.{outside}
 use Rattle.numbers.proofs.Between.{inside-pos, natural-within}
@@ -24,7 +25,7 @@ use Rattle.transport.specs.declared.Clock.{Clock}
 use Rattle.transport.specs.declared.Clock.the-variants.{Nothing, At}
 use Rattle.transport.specs.declared.Position.{Position}
 use Rattle.transport.proofs.OneStep.{step-is-one}
-use Rattle.transport.proofs.Answered.{accepted-is, reached-inside, some-value, value-inside, first-value}
+use Rattle.transport.proofs.Answered.{refused-is, accepted-is, reached-inside, some-value, value-inside, first-value}
 
 -- ---- the clock
 
@@ -42,6 +43,20 @@ unfolding followAnswer
 by-any-step position heard s h k w =
     let e : reached (At position) heard ≡ position +ℤ s = ap (λ s. position +ℤ s) (sym (step-is-one position heard s w)) in
     ap₂ (λ t z. cond t (refused 14) (value (positionAt z))) (some-value (At position) heard k h ∙ ap (outside (pos 0) lastPosition) e) e
+
+-- the first value of all is taken as it is
+pub first-as-it-is :
+    (heard : ℤ) → outside (pos 0) lastValue heard ≡ false →
+    (followAnswer Nothing heard ≡ value (positionAt heard)) × (clockAfter Nothing heard ≡ At heard)
+first-as-it-is heard h = accepted-is Nothing heard (first-value heard h)
+
+-- 14 exactly if a value, a position handed in or the position that is reached lies outside
+pub fourteen-exactly : (clock : Clock) (heard : ℤ) → (followAnswer clock heard ≡ refused 14) ↔ (notFollowed clock heard ≡ true)
+fourteen-exactly clock heard = (λ e. not-followed (notFollowed clock heard) refl e, λ h. refused-is clock heard h .0)
+  where
+    not-followed : (t : Bool) → notFollowed clock heard ≡ t → followAnswer clock heard ≡ refused 14 → t ≡ true
+    not-followed true p e = refl
+    not-followed false p e = let v = accepted-is clock heard p .0 in clash (cc)
 
 -- the clock goes on from the position that an accepted value answers
 pub goes-on-from : (clock : Clock) (heard : ℤ) (p : Position) → followAnswer clock heard ≡ value p → clockAfter clock heard ≡ At (p .ticks)

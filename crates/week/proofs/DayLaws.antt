@@ -25,16 +25,12 @@ use Rattle.calendar.proofs.Laws.{date-of-days, date-of-count-is-valid}
 use Rattle.week.specs.Days.{lastOf, previousDay, dateBefore, dateOn}
 use Rattle.week.specs.Week.{weekDate, weekDateOf}
 use Rattle.week.specs.Answers.{weekAnswer, firstWeekYear, lastWeekYear}
+use Rattle.week.specs.Order.{RightDate}
 use Rattle.week.specs.Closed.{baseCount, firstDay, InYear}
 use Rattle.week.proofs.Years.{thursdayAt, first-day-step}
 use Rattle.week.proofs.Dates.{pos-less, on-day}
 use Rattle.week.proofs.Weeks.{weekday-at, week-date-at}
 use Rattle.week.proofs.Before.{date-before, before-base, not-after-base}
-
--- a month and a day of it, of any year
-pub record RightDate (d : Date) : Type 0 where
-  pub month-inside : outside (pos 1) (pos 12) (d .month) ≡ false
-  pub day-inside : outside (pos 1) (monthLength (d .year) (d .month)) (d .day) ≡ false
 
 -- the length of month m, which has a day
 length : (y : ℤ) (m : ℕ) → ℕ

@@ -117,6 +117,10 @@ module _ (year : ℤ) (h : outside firstWeekYear lastWeekYear year ≡ false) wh
             let b = day-has a in
             let k = week-has a .0 in
             ap (outside (pos 1) (pos last)) (b .week-is) ∙ inside-pos 1 last (b .w) (k .week-low) (omega (arith, k .week-high, e));
+        weekday-of = λ week weekday a.
+            let b = day-has a in
+            let k = week-has a .0 in
+            ap (outside (pos 1) (pos 7)) (b .weekday-is) ∙ inside-pos 1 7 (b .d) (k .day-low) (k .day-high);
       }
 
   pub fifty-two-or-fifty-three : HasWeeks year 52 ⊎ HasWeeks year 53
@@ -130,8 +134,7 @@ module _ (year : ℤ) (h : outside firstWeekYear lastWeekYear year ≡ false) wh
       go : (s t : Bool) → outside (pos 1) (pos (weeks number)) week ≡ s → outside (pos 1) (pos 7) weekday ≡ t →
           DayOf year week weekday ⊎ (DayOf year week weekday → ⊥)
       go true t p q = inr (λ a. no-both _ p (weeks-of (weeks number) refl .week-of week weekday a))
-      go false true p q =
-          inr (λ a. let k = week-has a .0 in no-both _ q (ap (outside (pos 1) (pos 7)) (day-has a .weekday-is) ∙ inside-pos 1 7 (day-has a .d) (k .day-low) (k .day-high)))
+      go false true p q = inr (λ a. no-both _ q (weeks-of (weeks number) refl .weekday-of week weekday a))
       go false false p q = inl (weeks-of (weeks number) refl .each week weekday p q)
 
   -- an answered day has the week date, and one that is refused with 4 lies outside the range

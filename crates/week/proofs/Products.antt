@@ -52,7 +52,11 @@ week-bounds w Y r f Q e l h g a b = (omega arith, omega arith)
 day-of : (w : ℕ) → w - 1461 * ((4 * w + 3) / 1461) / 4 ≡ (4 * w + 3) % 1461 / 4
 day-of w = omega arith
 
-module _ (n : ℕ) (h : n < 2 ^ 24) where
+-- the days for which the products are right
+abbrev pub daysEnd : ℕ
+daysEnd = 23700000
+
+module _ (n : ℕ) (h : n < daysEnd) where
   abbrev product : ℕ
   product = (regular n + 1) * 23517959
 

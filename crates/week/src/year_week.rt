@@ -17,7 +17,7 @@ pub fn of_day(n: u64) -> YearWeek
 {
     let d = n + 1; // [1, toDay + 4]
     let c = (d * 120414423) >> 42; // (4 * d - 1) / 146097, the century
-    let regular = d - c / 4 + c; // [1, 24000000], as if every fourth year were leap
+    let regular = d - c / 4 + c; // as if every fourth year were leap
     let p = regular * 23517959; // 2^33 / 365.25 for each day
     YearWeek {
         year: p >> 33,

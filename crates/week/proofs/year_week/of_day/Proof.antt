@@ -2,7 +2,7 @@ use Prim.Native.Nat.{ℕ, _+_, _-_, _*_, _/_, _%_, _^_, _≤_, _<_}
 use mathlib.Core.Path.{_≡_, sym, ap, _∙_, subst}
 use native.Mathlib.Omega.{arith}
 use Rattle.week.specs.Closed.{firstDay, InYear}
-use Rattle.week.proofs.Products.{centuryOf, regular, century-product, year-product, week-product, in-year, day-is}
+use Rattle.week.proofs.Products.{daysEnd, centuryOf, regular, century-product, year-product, week-product, in-year, day-is}
 use borrow.Author.Needs.{needs}
 use Rattle.week.proofs.year_week.of_day.Statement.{statement}
 use Rattle.week.proofs.year_week.of_day.Tie as tie
@@ -11,14 +11,14 @@ use Rattle.week.proofs.year_week.of_day.Tie as tie
 coded : (n : ℕ) → ℕ
 coded n = n + 1 - (n + 1) * 120414423 / 2 ^ 42 / 4 + (n + 1) * 120414423 / 2 ^ 42
 
-coded-is : (n : ℕ) → n < 2 ^ 23 → coded n ≡ regular n + 1
+coded-is : (n : ℕ) → n < daysEnd → coded n ≡ regular n + 1
 unfolding coded
 coded-is n h = ap (λ c. n + 1 - c / 4 + c) (century-product n (omega arith)) ∙ sum (centuryOf n) (omega arith)
   where
     sum : (C : ℕ) → C ≤ n + 1 → n + 1 - C / 4 + C ≡ n + C - C / 4 + 1
     sum C l = omega arith
 
-small : (n : ℕ) → n < 2 ^ 23 → coded n < 2 ^ 24
+small : (n : ℕ) → n < daysEnd → coded n < 2 ^ 25
 small n h = omega (arith, coded-is n h)
 
 add-regular : tie.Need-add-regular
