@@ -12,6 +12,7 @@ use Rattle.refusal.specs.Outcome.{Outcome, value, refused}
 use Rattle.numbers.specs.Range.{outside, since}
 use Rattle.numbers.proofs.Integers.{inside, since-add}
 use Rattle.numbers.proofs.Between.{natural-within}
+use Rattle.numbers.proofs.Based as based
 use Rattle.numbers.proofs.Machine.{read}
 use Rattle.calendar.specs.declared.Date.{Date}
 use Rattle.calendar.specs.declared.Checked.{Checked}
@@ -25,7 +26,6 @@ use Rattle.calendar.specs.Closed.{baseYear, baseCount, cycle, lastDay, l
 use Rattle.calendar.proofs.Leap.{leap-le}
 use Rattle.calendar.proofs.Months.{length-le, length-public, before-public}
 use Rattle.calendar.proofs.Steps.{found, number-in-range, count-after}
-use Rattle.calendar.proofs.Years.{year-is, year-from, year-to}
 use Rattle.calendar.proofs.Tests.{month-accepted, day-decides, accepted-valid, accepted-is, accepted-answer, date-refused, of-read}
 
 -- a date in natural numbers
@@ -41,7 +41,7 @@ pub natural : (d : Date) → ValidDate d → NaturalDate d
 natural date v =
     let y = since baseYear (date .year) in
     let m = natAbs (date .month) in
-    let p = sym (year-is (date .year) (v .year-inside)) in
+    let p = sym (based.is baseYear firstYear lastYear refl refl (date .year) (v .year-inside)) in
     let mo = natural-within 1 (pos 12) (date .month) (v .month-inside) in
     let len : monthLength (date .year) (date .month) ≡ pos (monthDays (leapDay y) m) =
     (λ i. monthLength (p i) (mo .is i)) ∙ length-public y m (mo .low) (mo .high) in
@@ -53,7 +53,12 @@ natural date v =
       d = natAbs (date .day);
       is = (λ i. record { year = p i; month = mo .is i; day = da .is i });
       is-valid = w;
-      in-range = record { is-valid = w; from = year-from (date .year) (v .year-inside); to = year-to (date .year) (v .year-inside) };
+      in-range =
+          record {
+            is-valid = w;
+            from = based.from baseYear firstYear lastYear refl refl (date .year) (v .year-inside);
+            to = based.to baseYear firstYear lastYear refl refl (date .year) (v .year-inside);
+          };
     }
 
 pub day-small : (y m d : ℕ) → Valid y m d → d ≤ 31

@@ -3,7 +3,6 @@ pub mod Months
 pub mod Order
 pub mod Steps
 pub mod Weekdays
-pub mod Years
 pub mod Lengths
 pub mod Tests
 pub mod Dates

@@ -8,8 +8,8 @@ use lib.Dec.{T}
 use lib.Signed.{ltZ, nonNeg}
 use borrow.Author.Tests.{ltb-false, le-ltb}
 use mir.Syntax.{Width, w32, w64}
-use mir.Val.{SFits, Fits, toZ}
-use mir.Facts.{toZ-ofZ, toZ-pos}
+use mir.Val.{SFits, Fits}
+use mir.Facts.{toZ-ofZ}
 use Rattle.numbers.specs.Range.{outside, Within}
 use Rattle.numbers.proofs.Integers.{outside-no, not-outside, lt-add}
 use Rattle.numbers.proofs.Machine.{read, pos-fits, cast-pos}
@@ -54,9 +54,6 @@ module _ (k : ℕ) (h : k < 2 ^ 32) (z : ℤ) (e : outside (pos 0) (pos k) z ≡
 
   pub read-below : natAbs (read z) < k + 1
   read-below = let w = natural-within 0 (pos k) z e in let l = w .high in omega (arith, abs-read)
-
-pub as-signed : {n : ℕ} → Fits w32 n → toZ w64 n ≡ pos n
-as-signed h = toZ-pos w64 (omega (arith, h .fits))
 
 -- numbers that lie in a range, as natural numbers and from any first number on
 pub inside-pos : (a b n : ℕ) → a ≤ n → n ≤ b → outside (pos a) (pos b) (pos n) ≡ false

@@ -5,3 +5,4 @@ pub mod Machine
 pub mod Mended
 pub mod Quotients
 pub mod Between
+pub mod Based

@@ -1,8 +1,8 @@
 -- The theorems of week dates, over the definition by steps: document 02, request Seven.
-use Prim.Native.Nat.{ℕ, _+_, _-_, _≤_}
+use Prim.Native.Nat.{ℕ, _+_, _≤_}
 use mathlib.Core.Path.{_≡_, refl, sym, ap, ap₂, _∙_}
 use mathlib.Core.Logic.{_↔_, _⊎_, inl, inr, ⊎-elim}
-use mathlib.Core.Bool.{Bool, true, false, cond, not}
+use mathlib.Core.Bool.{Bool, true, false, cond}
 use native.Mathlib.Omega.{arith, by-contra}
 use lib.IntN.{ℤ, pos, natAbs, _+ℤ_}
 use lib.Signed.{ltZ}
@@ -27,7 +27,7 @@ use Rattle.week.proofs.Weeks.{week-date-at}
 use Rattle.week.proofs.Answers.{Has, week-date-of-day, no-week, one-day}
 use Rattle.week.proofs.Answers as Answers
 use Rattle.week.proofs.Before.{not-after-base, week-year-before}
-use Rattle.week.proofs.Range.{is, from, to}
+use Rattle.numbers.proofs.Based.{is, from, to}
 
 -- the weekday is the calendar's, of the definition and of the calls
 week-date-weekday : (z : ℤ) → weekDateOf z .weekday ≡ weekday z

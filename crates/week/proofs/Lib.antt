@@ -1,4 +1,3 @@
-pub mod Range
 pub mod Years
 pub mod Products
 pub mod Dates

@@ -21,7 +21,7 @@ use Rattle.week.specs.Closed.{baseYear, baseCount, firstDay}
 use Rattle.week.proofs.Years.{thursdayAt, first-day-monotone, WeekDay}
 use Rattle.week.proofs.Dates.{on-day}
 use Rattle.week.proofs.Weeks.{weekAt, week-date-at}
-use Rattle.week.proofs.Range.{is}
+use Rattle.numbers.proofs.Based.{is}
 use Rattle.week.proofs.Laws.{week-of-days}
 
 -- a day that precedes another by year, week and weekday

@@ -1,9 +1,10 @@
 use mathlib.Core.Path.{refl}
 use native.Mathlib.Omega.{arith}
 use lib.Dec.{lit<}
+use mir.Syntax.{w64}
 use Rattle.calendar.specs.Range.{firstCount, lastCount}
 use Rattle.week.specs.Closed.{baseCount}
-use Rattle.week.proofs.Range.{to, sub-fits, cast-fits, cast-is}
+use Rattle.numbers.proofs.Based.{to, sub-fits, cast-fits, cast-is}
 use Rattle.week.proofs.days_from_base.Statement.{statement}
 use Rattle.week.proofs.days_from_base.Tie as tie
 
@@ -11,7 +12,7 @@ sub-result : tie.Need-sub-result
 sub-result c = sub-fits baseCount firstCount lastCount refl refl (c .args .days) (c .pre) (lit< tt) (c .fits .days)
 
 cast-result : tie.Need-cast-result
-cast-result c = cast-fits baseCount firstCount lastCount refl refl (c .args .days) (c .pre) (lit< tt) (c .fits .days)
+cast-result c = cast-fits baseCount firstCount lastCount refl refl (c .args .days) (c .pre) (lit< tt) (c .fits .days) w64 (lit< tt)
 
 returns : tie.Need-returns
 returns c =

@@ -13,7 +13,7 @@ use Rattle.calendar.specs.Count.{weekday}
 use Rattle.week.specs.Week.{weekDate, weekDateOf}
 use Rattle.week.specs.Closed.{baseYear, baseCount, toYear, InYear, firstDay}
 use Rattle.week.proofs.Years.{thursdayAt, year-bound}
-use Rattle.week.proofs.Range.{is}
+use Rattle.numbers.proofs.Based.{is}
 use Rattle.week.proofs.Weeks.{weekday-at, week-date-at}
 use Rattle.week.proofs.week_date.Statement.{statement}
 use Rattle.week.proofs.week_date.Tie as tie

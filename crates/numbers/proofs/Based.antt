@@ -2,16 +2,15 @@
 use Prim.Native.Nat.{_≤_, _<_, _^_}
 use mathlib.Core.Path.{_≡_, sym, ap₂, _∙_}
 use mathlib.Core.Bool.{false}
-use native.Mathlib.Omega.{arith}
 use lib.Dec.{T}
 use lib.IntN.{ℤ, pos, natAbs, _+ℤ_, _-ℤ_}
 use lib.Signed.{ltZ, nonNeg}
 use borrow.Author.Tests.{ltb-false}
-use mir.Syntax.{w64}
-use mir.Val.{SFits, Fits}
+use mir.Syntax.{Width, w64}
+use mir.Val.{SFits, Fits, bits}
 use Rattle.numbers.specs.Range.{outside, since}
 use Rattle.numbers.proofs.Integers.{outside-no, not-below-trans, add-since, since-le, lt-add}
 use Rattle.numbers.proofs.Machine.{read, from-first, from-first-cast, from-first-is}
 
 module _ (base first last : ℤ) (from-base : ltZ first base ≡ false) (some : ltZ last base ≡ false) (z : ℤ) (h : outside first last z ≡ false) where
   pub low : ltZ z base ≡ false
@@ -36,8 +35,8 @@ module _ (base first last : ℤ) (from-base : ltZ first base ≡ false) (some : 
     pub sub-fits : SFits w64 (read z -ℤ base)
     sub-fits = from-first base last some near fits low high
 
-    pub cast-fits : T (nonNeg (read (read z -ℤ base))) × Fits w64 (natAbs (read (read z -ℤ base)))
-    cast-fits = from-first-cast base last some near fits low high w64 (omega (arith, near))
+    pub cast-fits : (w : Width) → since base last < 2 ^ bits w → T (nonNeg (read (read z -ℤ base))) × Fits w (natAbs (read (read z -ℤ base)))
+    cast-fits = from-first-cast base last some near fits low high
 
     pub cast-is : natAbs (read (read z -ℤ base)) ≡ since base z
     cast-is = from-first-is base last some near fits low high
