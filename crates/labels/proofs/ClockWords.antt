@@ -1,5 +1,5 @@
 -- Twelve bytes as two numbers, `HH:MM:SS` and `.mmm`: the tests of the code find out whether they are a timestamp.
-use Prim.Native.Nat.{ℕ, suc, _+_, _-_, _*_, _≤_, _<_, _^_}
+use Prim.Native.Nat.{ℕ, suc, _+_, _*_, _≤_, _<_, _^_}
 use mathlib.Core.Path.{_≡_, refl, sym, ap, ap₂, _∙_, subst}
 use mathlib.Core.Bool.{true, _&&_}
 use mathlib.Core.List.{List, [], _∷_, _++_}
@@ -9,7 +9,7 @@ use lib.Bits.{bitAnd, bitOr, bitXor}
 use lib.Dec.{ltb}
 use lib.ListN.{getD, take, drop}
 use Rattle.numbers.proofs.Bools.{and-left, and-right}
-use Rattle.labels.specs.Clock.{colon, point, clockText}
+use Rattle.labels.specs.Clock.{colon, clockText}
 use Rattle.labels.specs.Digits.{digits, numberAt, fits}
 use Rattle.labels.specs.Words.{word, bytesOf, pairOf, numberOf, Thousandths, above}
 use Rattle.labels.specs.Timestamps.{isClock, isTimestamp, positionOf}

@@ -1,5 +1,5 @@
 -- The time of day of the values of `HH:MM:SS` and of `.mmm`.
-use Prim.Native.Nat.{ℕ, suc, _+_, _*_, _/_, _%_, _≤_, _<_, _^_}
+use Prim.Native.Nat.{ℕ, suc, _+_, _-_, _*_, _/_, _%_, _≤_, _<_, _^_}
 use mathlib.Core.Path.{_≡_, refl, sym, ap, ap₂, _∙_}
 use mathlib.Core.Bool.{Bool, true, false, cond, _||_}
 use mathlib.Core.List.{List, [], _∷_}
@@ -97,5 +97,5 @@ module _ (hour minute second thousandths : ℕ) where
       let bad : badTime (pos hour) (pos minute) (pos second) (pos thousandths) ≡ false =
       ap₂ _||_ (inside-pos 0 23 hour (zero-le hour) h)
       (ap₂ _||_ (inside-pos 0 59 minute (zero-le minute) m)
-      (ap₂ _||_ (inside-pos 0 59 second (zero-le second) s) (inside-pos 0 999 thousandths (zero-le thousandths) (omega arith)))) in
+      (ap₂ _||_ (inside-pos 0 59 second (zero-le second) s) (inside-pos 0 (perSecond - 1) thousandths (zero-le thousandths) (omega arith)))) in
       sym (ap (λ t. cond t (refused 5) (value (timeOfFields (pos hour) (pos minute) (pos second) (pos thousandths)))) bad)

@@ -10,6 +10,7 @@ use mir.Syntax.{w64}
 use mir.Facts.{toZ-pos}
 use Rattle.refusal.specs.Outcome.{value}
 use Rattle.numbers.proofs.Bools.{no-both}
+use Rattle.instant.specs.Units.{perSecond, perMinute}
 use Rattle.labels.specs.Words.{pairs, pairOf, numberOf}
 use Rattle.labels.proofs.Rooms.{highest}
 use Rattle.labels.proofs.Thousandths.{number-small}
@@ -83,9 +84,9 @@ returns-2 c =
     let q = c .before .pair .ensures in
     let f = c .thousandths .ensures .0 in
     let k = number-small (s .pre .1) in
-    let n = minutes (p .result) * 60000 + c .before .pair .result * 1000 + c .thousandths .result in
+    let n = minutes (p .result) * perMinute + c .before .pair .result * perSecond + c .thousandths .result in
     ap value (toZ-pos w64 {n = n} (omega arith) ∙ ap pos (omega arith))
-    ∙ time-is (pairOf v 0) (pairOf v 3) (pairOf v 6) (numberOf (s .args .fraction) 4) (omega arith) b d k
+    ∙ time-is (pairOf v 0) (pairOf v 3) (pairOf v 6) (numberOf (s .args .fraction) 4) (omega arith) b d (omega (arith, k))
 
 pub time-of-day-spec : {M : Type 1} → statement M
 time-of-day-spec =
