@@ -8,7 +8,7 @@
 //     day_of_year(year, month, day)            1 to 366        refusals 1, 2, 3
 //     add_days(year, month, day, days)         shifted date    refusals 1, 2, 3, then 4
 //
-// The module `range` has the first and last year and count.
+// The module `range` has the first and last year and count, `base` the year and the count that code counts from.
 
 use base::BASE_COUNT;
 use base::BASE_YEAR;
@@ -21,7 +21,7 @@ use range::LAST_YEAR;
 use refusal::NumberAnswer;
 use refusal::Refusal;
 
-mod base;
+pub mod base;
 mod convert;
 mod length_by_bits;
 mod length_by_match;

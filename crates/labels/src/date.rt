@@ -1,5 +1,6 @@
 // The day count of a label's date. The digits tell the century and its year apart, so that no year is divided by 100.
 
+use calendar::base::CYCLE;
 use refusal::NumberAnswer;
 use refusal::Refusal;
 ghost use mathlib.Core.Path.{_≡_};
@@ -11,7 +12,7 @@ ghost use Rattle.calendar.specs.Answers.{daysAnswer};
 ghost use Rattle.labels.specs.Parts.{DateDigits, monthEntry};
 
 // The days of four centuries, and of four years of one.
-const FOUR_CENTURIES: u64 = 146097;
+const FOUR_CENTURIES: u64 = CYCLE as u64;
 
 const FOUR_YEARS: u64 = 1461;
 

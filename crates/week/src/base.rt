@@ -1,7 +1,6 @@
 // The years of week dates, and where the code counts from: 1 January of the year after a multiple of 400, which is a Monday, so that of
 // four years from there on the last is leap, but for those that 100 and not 400 divide.
 
-use calendar::range::FIRST_COUNT;
 use calendar::range::FIRST_YEAR;
 use calendar::range::LAST_YEAR;
 
@@ -10,7 +9,7 @@ pub const FIRST_WEEK_YEAR: i64 = FIRST_YEAR - 1;
 
 pub const LAST_WEEK_YEAR: i64 = LAST_YEAR;
 
-// One cycle of 400 years, 146097 days, before the first year, and one leap year more.
-pub const BASE_YEAR: i64 = FIRST_YEAR - 400 + 1;
+// The base of the calendar, and one leap year more.
+pub const BASE_YEAR: i64 = calendar::base::BASE_YEAR + 1;
 
-pub const BASE_COUNT: i64 = FIRST_COUNT - 146097 + 366;
+pub const BASE_COUNT: i64 = calendar::base::BASE_COUNT + 366;
