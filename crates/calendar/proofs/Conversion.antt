@@ -13,7 +13,7 @@ use mir.Facts.{toZ-pos}
 use Rattle.numbers.proofs.Machine.{read, add-first, add-first-is}
 use Rattle.calendar.specs.Gregorian.{dateOf, dateAfter}
 use Rattle.calendar.specs.Closed.{cycle, fromYear, baseYear, lastDay, firstFromMarch, leapDay, leaps, start, before, Valid, InRange, dayNumber, public, newYear, fromMarch, beforeMarch}
-use Rattle.calendar.proofs.Leap.{leaps-step, leaps-next}
+use Rattle.calendar.proofs.Leap.{leaps-step, leaps-next, few}
 use Rattle.calendar.proofs.Months.{before-early, before-late}
 use Rattle.calendar.proofs.Steps.{number-in-range}
 use Rattle.calendar.proofs.March.{centuryOf, dayOfCentury, yearOfCentury, dayOfMarchYear, century-sum, algorithm-3}
@@ -45,7 +45,7 @@ year-of w C R e = omega arith
 rest-of : (w C R : ℕ) → w ≡ 36525 * C + R → (4 * w + 3) % 1461 ≡ (4 * R + 3) % 1461
 rest-of w C R e = omega (arith, year-of w C R e)
 
-day-of : (w : ℕ) → w - 1461 * ((4 * w + 3) / 1461) / 4 ≡ (4 * w + 3) % 1461 / 4
+pub day-of : (w : ℕ) → w - 1461 * ((4 * w + 3) / 1461) / 4 ≡ (4 * w + 3) % 1461 / 4
 day-of w = omega arith
 
 pub same-year : (n : ℕ) → marchYear n ≡ 100 * centuryOf n + yearOfCentury n
@@ -105,9 +105,6 @@ early-sum y Y L B b d A C D e p k q h = omega arith
 late-sum : (y L L′ l B b d A C D : ℕ) → L′ ≡ L + l → L′ + C ≡ A + D + 1 → C ≤ A → b ≡ B + l → 1 ≤ d → 365 * y + A - C + D + B + d ≡ 365 * y + L + b + (d - 1)
 late-sum y L L′ l B b d A C D e p k q h = omega arith
 
-fewer : (y : ℕ) → y / 100 ≤ y / 4
-fewer y = omega arith
-
 -- the sum that the code takes, with b days before the month
 abbrev pub daySum : (y m b d : ℕ) → ℕ
 daySum y m b d = 365 * y + (y - beforeMarch m) / 4 - (y - beforeMarch m) / 100 + (y - beforeMarch m) / 100 / 4 + b + d
@@ -124,12 +121,12 @@ algorithm-4 y m d b v lo f = go (leb m 2) refl
         let p : y - 1 + 1 ≡ y = omega arith in
         early-sum y (y - 1) (leaps y) b (before (leapDay y) m) d _ _ _ p
         (subst (λ x. leaps x + (y - 1) / 100 ≡ (y - 1) / 4 + (y - 1) / 100 / 4 + 1) p (leaps-next (y - 1)))
-        (fewer (y - 1)) (f ∙ sym (before-early (leapDay y) m (v .month-low) (omega arith))) (v .day-low)
+        (few (y - 1)) (f ∙ sym (before-early (leapDay y) m (v .month-low) (omega arith))) (v .day-low)
     go false e =
         let h = leb-false m 2 e in
         rw sub-zero
         (late-sum y (leaps y) (leaps (y + 1)) (leapDay y) b (before (leapDay y) m) d _ _ _ (leaps-step y) (leaps-next y)
-        (fewer y) (before-late (leapDay y) m (omega arith) (v .month-high) ∙ ap (λ b. b + leapDay y) (sym f)) (v .day-low))
+        (few y) (before-late (leapDay y) m (omega arith) (v .month-high) ∙ ap (λ b. b + leapDay y) (sym f)) (v .day-low))
 
 -- it is the day's number, and lies in the range
 pub day-number :

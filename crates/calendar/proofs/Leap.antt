@@ -149,7 +149,8 @@ up-100 y = omega arith
 up-400 : (y : ℕ) → (y + 1 + 399) / 400 ≡ y / 100 / 4 + 1
 up-400 y = omega arith
 
-few : (y : ℕ) → y / 100 ≤ y / 4
+-- 100 divides no more years than 4
+pub few : (y : ℕ) → y / 100 ≤ y / 4
 few y = omega arith
 
 sum-up : (a b c a′ b′ c′ : ℕ) → a′ ≡ a + 1 → b′ ≡ b + 1 → c′ ≡ c + 1 → b ≤ a → a′ + c′ - b′ + b ≡ a + c + 1

@@ -5,11 +5,13 @@ use mathlib.Core.Path.{_≡_, refl, sym, ap, _∙_, subst}
 use native.Mathlib.Decide.{decLt}
 use native.Mathlib.Nat.{div-eq-of-lt-le}
 use native.Mathlib.Omega.{arith}
+use Rattle.calendar.specs.Closed.{cycle}
+use Rattle.calendar.proofs.Conversion.{day-of}
 use Rattle.week.specs.Closed.{firstDay, InYear}
 use Rattle.week.proofs.Years.{first-day-is}
 
 abbrev pub centuryOf : ℕ → ℕ
-centuryOf n = (4 * n + 3) / 146097
+centuryOf n = (4 * n + 3) / cycle
 
 abbrev pub regular : ℕ → ℕ
 regular n = n + centuryOf n - centuryOf n / 4
@@ -27,40 +29,36 @@ shifted x q e h lo hi = div-eq-of-lt-le e lo (omega arith)
 
 -- the century by a product: 146097 times the multiplier is 2^44 less 87385
 century-bounds :
-    (n C R : ℕ) → 4 * n + 3 ≡ 146097 * C + R → R < 146097 → C ≤ 1300 →
+    (n C R : ℕ) → 4 * n + 3 ≡ cycle * C + R → R < cycle → C ≤ 1300 →
     (C * 2 ^ 42 ≤ (n + 1) * 120414423) × ((n + 1) * 120414423 < (C + 1) * 2 ^ 42)
 century-bounds n C R e l h = (omega arith, omega arith)
 
 pub century-product : (n : ℕ) → n < 2 ^ 25 → (n + 1) * 120414423 / 2 ^ 42 ≡ centuryOf n
 century-product n h =
-    let b = century-bounds n (centuryOf n) ((4 * n + 3) % 146097) (omega arith) (omega arith) (omega arith) in
+    let b = century-bounds n (centuryOf n) ((4 * n + 3) % cycle) (omega arith) (omega arith) (omega arith) in
     shifted _ _ _ (omega arith) (b .0) (b .1)
 
 -- the year: 1461 times the multiplier is 2^35 less 269
 year-bounds :
-    (w Y r : ℕ) → 4 * w + 3 ≡ 1461 * Y + r → r < 1461 → Y ≤ 65000 →
+    (w Y r : ℕ) → 4 * w + 3 ≡ 1461 * Y + r → r < 1461 → Y ≤ 66000 →
     (Y * 2 ^ 33 ≤ (w + 1) * 23517959) × ((w + 1) * 23517959 < (Y + 1) * 2 ^ 33)
 year-bounds w Y r e l h = (omega arith, omega arith)
 
 -- what is left of that product, in 13357ths of 2^41, is 28ths of what is left of the division
 week-bounds :
-    (w Y r f Q : ℕ) → 4 * w + 3 ≡ 1461 * Y + r → r < 1461 → Y ≤ 65000 → (w + 1) * 23517959 ≡ Y * 2 ^ 33 + f → 28 * Q ≤ r → r < 28 * (Q + 1) →
+    (w Y r f Q : ℕ) → 4 * w + 3 ≡ 1461 * Y + r → r < 1461 → Y ≤ 66000 → (w + 1) * 23517959 ≡ Y * 2 ^ 33 + f → 28 * Q ≤ r → r < 28 * (Q + 1) →
     (Q * 2 ^ 41 ≤ f * 13357) × (f * 13357 < (Q + 1) * 2 ^ 41)
 week-bounds w Y r f Q e l h g a b = (omega arith, omega arith)
 
--- the day of the year is what is left of the division, in days
-day-of : (w : ℕ) → w - 1461 * ((4 * w + 3) / 1461) / 4 ≡ (4 * w + 3) % 1461 / 4
-day-of w = omega arith
-
 -- the days for which the products are right
 abbrev pub daysEnd : ℕ
-daysEnd = 23700000
+daysEnd = 24000000
 
 module _ (n : ℕ) (h : n < daysEnd) where
   abbrev product : ℕ
   product = (regular n + 1) * 23517959
 
-  year-small : yearOf n ≤ 65000
+  year-small : yearOf n ≤ 66000
   year-small = omega arith
 
   split : 4 * regular n + 3 ≡ 1461 * yearOf n + (4 * regular n + 3) % 1461
@@ -81,20 +79,20 @@ module _ (n : ℕ) (h : n < daysEnd) where
       shifted (product % 2 ^ 33 * 13357) (r / 28) (2 ^ 41) (omega arith) (b .0) (b .1) ∙ omega (arith, day-of (regular n))
 
 -- the century of a day, and of its year
-century-of : (n C w : ℕ) → C ≡ (4 * n + 3) / 146097 → w ≡ n + C - C / 4 → (36525 * C ≤ w) × (w < 36525 * (C + 1))
+century-of : (n C w : ℕ) → C ≡ (4 * n + 3) / cycle → w ≡ n + C - C / 4 → (36525 * C ≤ w) × (w < 36525 * (C + 1))
 century-of n C w e f = omega arith
 
 century-of-year : (w C Y : ℕ) → 36525 * C ≤ w → w < 36525 * (C + 1) → Y ≡ (4 * w + 3) / 1461 → Y / 100 ≡ C
 century-of-year w C Y lo hi e = omega arith
 
 -- a day comes before the next year, which begins in the same century or begins the next one
-in-century : (n C w Y : ℕ) → C ≡ (4 * n + 3) / 146097 → w ≡ n + C - C / 4 → Y ≡ (4 * w + 3) / 1461 → n < 1461 * (Y + 1) / 4 - C + C / 4
+in-century : (n C w Y : ℕ) → C ≡ (4 * n + 3) / cycle → w ≡ n + C - C / 4 → Y ≡ (4 * w + 3) / 1461 → n < 1461 * (Y + 1) / 4 - C + C / 4
 in-century n C w Y a b c = omega arith
 
-of-century : (n C : ℕ) → C ≡ (4 * n + 3) / 146097 → n < 1461 * (100 * (C + 1)) / 4 - (C + 1) + (C + 1) / 4
+of-century : (n C : ℕ) → C ≡ (4 * n + 3) / cycle → n < 1461 * (100 * (C + 1)) / 4 - (C + 1) + (C + 1) / 4
 of-century n C a = omega arith
 
-from-first : (n C w Y : ℕ) → C ≡ (4 * n + 3) / 146097 → w ≡ n + C - C / 4 → Y ≡ (4 * w + 3) / 1461 →
+from-first : (n C w Y : ℕ) → C ≡ (4 * n + 3) / cycle → w ≡ n + C - C / 4 → Y ≡ (4 * w + 3) / 1461 →
     (1461 * Y / 4 - C + C / 4 ≤ n) × (n - (1461 * Y / 4 - C + C / 4) ≡ w - 1461 * Y / 4)
 from-first n C w Y a b c = omega arith
 

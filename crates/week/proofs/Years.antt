@@ -8,7 +8,7 @@ use native.Mathlib.Omega.{arith, by-contra}
 use lib.Dec.{ltb}
 use borrow.Author.Tests.{ltb-true, ltb-false}
 use Rattle.calendar.specs.Closed.{leapDay, leaps, start}
-use Rattle.calendar.proofs.Leap.{leap-le, leaps-next}
+use Rattle.calendar.proofs.Leap.{leap-le, leaps-next, few}
 use Rattle.calendar.proofs.Order.{start-step, start-monotone}
 use Rattle.week.specs.Closed.{leapYearDays, fromYear, toYear, fromDay, toDay, firstDay, InYear, firstWeek, firstMonday, weeks, dayOf}
 
@@ -30,9 +30,6 @@ first-day-monotone y z h = omega (arith, first-day-start y, first-day-start z, s
 start-sum : (y L A C D : ℕ) → L + C ≡ A + D + 1 → C ≤ A → 365 * y + A - C + D + 366 ≡ 365 * (y + 1) + L
 start-sum y L A C D e h = omega arith
 
-fewer : (y : ℕ) → y / 100 ≤ y / 4
-fewer y = omega arith
-
 quarter : (y : ℕ) → 1461 * y / 4 ≡ 365 * y + y / 4
 quarter y = omega arith
 
@@ -47,7 +44,7 @@ week-product n h = div-eq-of-lt-le (2 ^ 32) (omega arith) (omega arith)
 pub first-day-is : (y : ℕ) → 1461 * y / 4 - y / 100 + y / 100 / 4 ≡ firstDay y
 unfolding start
 first-day-is y =
-    let s = start-sum y (leaps (y + 1)) (y / 4) (y / 100) (y / 100 / 4) (leaps-next y) (fewer y) in
+    let s = start-sum y (leaps (y + 1)) (y / 4) (y / 100) (y / 100 / 4) (leaps-next y) (few y) in
     let q = ap (λ a. a - y / 100 + y / 100 / 4) (quarter y) in
     omega (arith, s, q, first-day-start y)
 
