@@ -1,11 +1,10 @@
 use Prim.Native.Nat.{ℕ}
-use mathlib.Core.Path.{_≡_, refl, sym, ap, _∙_}
+use mathlib.Core.Path.{_≡_, sym, ap, _∙_}
 use mathlib.Core.Bool.{Bool, cond}
 use mathlib.Core.List.{List}
 use native.Mathlib.Omega.{arith}
 use lib.Dec.{lit<}
 use lib.IntN.{natAbs}
-use lib.ListN.{length}
 use Rattle.refusal.specs.Outcome.{value, refused}
 use mir.Syntax.{w64}
 use mir.Val.{SFits}
@@ -13,10 +12,11 @@ use Rattle.numbers.specs.Range.{outside}
 use Rattle.numbers.proofs.Machine.{answered}
 use Rattle.week.specs.declared.WeekDate.{WeekDate}
 use Rattle.labels.specs.Years.{firstLabelYear, lastLabelYear}
-use Rattle.labels.specs.IsoWeek.{weekLength, weekText, weekDateLabel}
+use Rattle.labels.specs.IsoWeek.{weekText, weekDateLabel}
 use Rattle.labels.specs.Filled.{filled}
 use Rattle.labels.proofs.Instants.{room-cast, room-below, room-abs}
 use Rattle.labels.proofs.Writing.{renamed, nothing-written, no-room, all-written}
+use Rattle.labels.proofs.WeekLaws.{week-label-length}
 use borrow.Author.Needs.{needs}
 use Rattle.labels.proofs.iso_week.write_date.Statement.{statement}
 use Rattle.labels.proofs.iso_week.write_date.Tie as tie
@@ -38,10 +38,6 @@ module _ (c : tie.After-outside) where
   label-is : {t : Bool} → c .outside .result ≡ t → cond t (refused 1) (value text) ≡ weekDateLabel date
   label-is e = ap (λ t. cond t (refused 1) (value text)) (sym (year-test e))
 
-text-length : (year week weekday : ℕ) → length (weekText year week weekday) ≡ weekLength
-unfolding weekText
-text-length year week weekday = refl
-
 returns : tie.Need-returns
 returns c = let k = c .before in nothing-written (start k .args .out .now) (label-is k (c .if1 .taken))
 
@@ -51,7 +47,7 @@ returns-2 c =
     let d = date k in
     let out = start k .args .out .now in
     renamed out (label-is k (c .before .if1 .left))
-    (no-room (text k) out (omega (arith, text-length (natAbs (d .year)) (natAbs (d .week)) (natAbs (d .weekday)), c .if2 .taken)))
+    (no-room (text k) out (omega (arith, week-label-length (natAbs (d .year)) (natAbs (d .week)) (natAbs (d .weekday)), c .if2 .taken)))
 
 cast-put-label : tie.Need-cast-put-label
 cast-put-label c = let k = c .before .before .before .before .before in room-cast 4 (lit< tt) (date k .year) (year-test k (c .before .before .before .before .if1 .left))
@@ -79,7 +75,7 @@ returns-3 c =
     let d = date k in
     let h = start k .pre in
     let out = start k .args .out .now in
-    let l = text-length (natAbs (d .year)) (natAbs (d .week)) (natAbs (d .weekday)) in
+    let l = week-label-length (natAbs (d .year)) (natAbs (d .week)) (natAbs (d .weekday)) in
     let y = room-abs 4 (lit< tt) (d .year) (year-test k (e .before .if1 .left)) in
     let w = room-abs 2 (lit< tt) (d .week) (h .0) in
     let n = room-abs 1 (lit< tt) (d .weekday) (h .1) in
