@@ -98,7 +98,7 @@ module _ (y m d : ℕ) (h : yearZero + y ≤ toYear) where
   year-is = sym (+ℤ-assoc baseYear (pos yearZero) (pos y)) ∙ ap pos (zero-add y)
 
   -- its year is one of the range
-  pub year-inside : outside firstYear lastYear (pos y) ≡ false
+  year-inside : outside firstYear lastYear (pos y) ≡ false
   year-inside = ap (outside firstYear lastYear) (sym year-is) ∙ inside-from baseYear fromYear toYear (yearZero + y) (omega arith) h
 
   -- its month has the length of the closed form

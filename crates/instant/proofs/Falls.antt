@@ -7,14 +7,14 @@ use native.Mathlib.Nat.{add-zero, add-suc}
 use native.Mathlib.Numerals.{add-one}
 use native.Mathlib.Omega.{arith}
 use native.Mathlib.Decide.{decLt}
-use lib.IntN.{ℤ, pos, +ℤ-idr}
+use lib.IntN.{ℤ, pos}
 use lib.ListN.{length, getD, drop, length-drop}
 use lib.Seq.{drop-cons}
 use lib.Signed.{ltZ}
 use mir.Facts.{toZ-ofZ}
 use mir.Syntax.{w64}
 use mir.Val.{SFits}
-use Rattle.numbers.proofs.Integers.{not-below, not-below-trans}
+use Rattle.numbers.proofs.Integers.{not-below-itself, not-below-trans}
 use Rattle.numbers.proofs.Machine.{read}
 use Rattle.instant.specs.Answers.{firstFall}
 use Rattle.instant.specs.Order.{FallsAt, FirstFallAt, NeverFalls}
@@ -124,9 +124,6 @@ pub fall-first : (s : List ℤ) → firstFall s < length s → FirstFallAt s (fi
 fall-first s l = record { falls = fall-falls s l; first = λ p k f. let h = fall-least s p f in omega arith }
 
 -- ---- a list without a fall
-
-not-below-itself : (z : ℤ) → ltZ z z ≡ false
-not-below-itself z = ap (λ (y : ℤ). ltZ y z) (sym (+ℤ-idr z)) ∙ not-below z 0
 
 module _ (s : List ℤ) (none : firstFall s ≡ length s) where
   neighbours : (k : ℕ) → suc k < length s → ltZ (getD s (suc k) (pos 0)) (getD s k (pos 0)) ≡ false

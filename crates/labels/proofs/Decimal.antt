@@ -1,7 +1,7 @@
 -- Numbers and their digits.
 use Prim.Native.Nat.{ℕ, zero, suc, _+_, _-_, _*_, _/_, _%_, _^_, _≤_, _<_}
 use mathlib.Core.Path.{_≡_, refl, sym, ap, ap₂, _∙_}
-use mathlib.Core.Bool.{true, _&&_, and-true, and-assoc}
+use mathlib.Core.Bool.{true, false, _&&_, and-true, and-assoc}
 use mathlib.Core.List.{List, [], _∷_, _++_, append-nil}
 use native.Mathlib.Nat.{pow-suc}
 use native.Mathlib.Omega.{arith}
@@ -9,7 +9,11 @@ use borrow.Author.Tests.{leb-true, le-leb}
 use lib.Dec.{leb, lit<}
 use lib.ListN.{length, drop, length-append, drop-of-length-le}
 use lib.Seq.{append-snoc, drop-append-le}
+use lib.IntN.{pos, natAbs}
+use Rattle.numbers.specs.Range.{outside}
 use Rattle.numbers.proofs.Bools.{and-left, and-right}
+use Rattle.numbers.proofs.Between.{inside-pos}
+use Rattle.labels.specs.Years.{firstLabelYear, lastLabelYear}
 use Rattle.labels.specs.Digits.{digits, numberFrom, number, isDigit}
 use Rattle.labels.specs.Stamps.{allDigits}
 
@@ -40,6 +44,10 @@ number-below n (suc count) =
     let l = number-below (n / 10) count in
     let e = from-append 0 (digits (n / 10) count) ((48 + n % 10) ∷ []) in
     rw pow-suc (omega arith)
+
+-- a number that four digits are is a year that has a label
+pub label-year : (n : ℕ) → n ≡ number (digits n 4) → outside firstLabelYear lastLabelYear (pos n) ≡ false
+label-year n e = inside-pos 0 (natAbs lastLabelYear) n (omega arith) (omega (arith, number-below n 4, e))
 
 pub length-digits : (n count : ℕ) → length (digits n count) ≡ count
 length-digits n zero = refl

@@ -12,22 +12,23 @@ use lib.ListN.{length, drop}
 use Rattle.refusal.specs.Outcome.{Outcome, mapValue, value, refused, refusedAt}
 use Rattle.numbers.specs.Range.{outside}
 use Rattle.numbers.proofs.Bools.{no-both}
-use Rattle.numbers.proofs.Between.{natural-within, inside-pos}
+use Rattle.numbers.proofs.Between.{natural-within}
+use Rattle.numbers.proofs.Integers.{wider}
 use Rattle.refusal.proofs.Outcomes.{clash, same-value}
 use Rattle.calendar.specs.Range.{firstYear, lastYear}
 use Rattle.calendar.specs.Gregorian.{monthLength, dateOf}
 use Rattle.calendar.specs.Answers.{ofDate}
-use Rattle.calendar.proofs.Centuries as Centuries
 use Rattle.instant.specs.Instant.{fieldsOf, timeOfFields, instantAt}
 use Rattle.instant.specs.Answers.{badInstant, badTime, splitAnswer, joinAnswer}
 use Rattle.instant.specs.declared.Fields.{Fields}
 use Rattle.instant.proofs.Laws.{split-join, join-split}
 use Rattle.labels.specs.Digits.{digits, number, numberAt, fits}
+use Rattle.labels.specs.Years.{firstLabelYear, lastLabelYear}
 use Rattle.labels.specs.Rfc3339.{labelLength, decimals, dateText, timeText, numbersText, dateShape, timeShape, labelText, instantLabel, readFields, readAnswer}
 use Rattle.labels.specs.Capitals.{inCapitals}
 use Rattle.labels.specs.Parts.{HasRoom, NarrowFields}
 use Rattle.labels.specs.Webvtt.{perHour, positionText, positionLabel}
-use Rattle.labels.proofs.Decimal.{number-digits, number-below}
+use Rattle.labels.proofs.Decimal.{number-digits, label-year}
 use Rattle.labels.proofs.Positions.{length-position}
 use Rattle.labels.proofs.Shapes.{fits-both}
 use Rattle.labels.proofs.Texts.{date-back, date-capital, time-back, date-fits, time-fits}
@@ -166,8 +167,8 @@ label-bytes = refl
 -- four digits are a year of the range
 year-inside : (label : List ℕ) → fits (dateShape ++ timeShape decimals) label ≡ true → outside firstYear lastYear (pos (numberAt 0 4 label)) ≡ false
 year-inside label h =
-    let b = number-below (numberAt 0 4 label) 4 in
-    Centuries.year-inside (numberAt 0 4 label) 0 0 (omega (arith, ap (numberAt 0 4) (date-back (timeShape decimals) label h .0)))
+    wider firstLabelYear lastLabelYear firstYear lastYear (pos (numberAt 0 4 label)) refl refl
+    (label-year (numberAt 0 4 label) (ap (numberAt 0 4) (date-back (timeShape decimals) label h .0)))
 
 -- the refusals of fields, one after the other
 by-refusal :

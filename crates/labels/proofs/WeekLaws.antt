@@ -10,8 +10,7 @@ use lib.ListN.{length, drop}
 use Rattle.refusal.specs.Outcome.{Outcome, value, refused, refusedAt, andThen}
 use Rattle.refusal.proofs.Outcomes.{clash, passes, same-value}
 use Rattle.numbers.specs.Range.{outside}
-use Rattle.numbers.proofs.Integers.{outside-no, not-outside, not-below-trans}
-use Rattle.numbers.proofs.Between.{inside-pos}
+use Rattle.numbers.proofs.Integers.{wider}
 use Rattle.week.specs.declared.WeekDate.{WeekDate}
 use Rattle.week.specs.Answers.{firstWeekYear, lastWeekYear, weekAnswer, weekDaysAnswer}
 use Rattle.week.proofs.Laws.{days-of-week, week-of-days, week-refusal}
@@ -19,7 +18,7 @@ use Rattle.labels.specs.Digits.{digits, numberAt, fits}
 use Rattle.labels.specs.Rfc3339.{dash}
 use Rattle.labels.specs.Years.{firstLabelYear, lastLabelYear}
 use Rattle.labels.specs.IsoWeek.{letterW, weekLength, weekText, weekDateLabel, weekLabel, weekShape, readNumbers, readWeekAnswer}
-use Rattle.labels.proofs.Decimal.{number-below}
+use Rattle.labels.proofs.Decimal.{label-year}
 use Rattle.labels.proofs.Shapes.{fits-both, digits-fit, digits-front, mark-front, fits-nothing}
 use Rattle.labels.proofs.Laws.{field-back}
 use Rattle.labels.proofs.WeekTexts.{week-room}
@@ -88,8 +87,7 @@ text-back label h =
 -- four digits are a year that has a label
 year-inside : (label : List ℕ) → fits weekShape label ≡ true → outside firstLabelYear lastLabelYear (pos (numberAt 0 4 label)) ≡ false
 unfolding weekText
-year-inside label h =
-    inside-pos 0 (natAbs lastLabelYear) (numberAt 0 4 label) (omega arith) (omega (arith, number-below (numberAt 0 4 label) 4, ap (numberAt 0 4) (text-back label h)))
+year-inside label h = label-year (numberAt 0 4 label) (ap (numberAt 0 4) (text-back label h))
 
 -- an accepted label has the shape, and its numbers make the day
 accepted : (label : List ℕ) (days : ℤ) → readWeekAnswer label ≡ value days →
@@ -115,10 +113,7 @@ read-write-week label days e =
 
 -- the years of labels are week years: reading never refuses with 1
 week-year : (label : List ℕ) → fits weekShape label ≡ true → outside firstWeekYear lastWeekYear (pos (numberAt 0 4 label)) ≡ false
-week-year label h =
-    let t = outside-no firstLabelYear lastLabelYear (pos (numberAt 0 4 label)) (year-inside label h) in
-    not-outside firstWeekYear lastWeekYear (pos (numberAt 0 4 label)) (not-below-trans (pos (numberAt 0 4 label)) firstLabelYear firstWeekYear (t .0) refl)
-    (not-below-trans lastWeekYear lastLabelYear (pos (numberAt 0 4 label)) refl (t .1))
+week-year label h = wider firstLabelYear lastLabelYear firstWeekYear lastWeekYear (pos (numberAt 0 4 label)) refl refl (year-inside label h)
 
 numbers-refusal : (label : List ℕ) → fits weekShape label ≡ true → (n : ℕ) → readNumbers label ≡ refused n → (n ≡ 16) ⊎ (n ≡ 4)
 numbers-refusal label h n e = week-refusal (pos (numberAt 0 4 label)) (week-year label h) (pos (numberAt 6 2 label)) (pos (numberAt 9 1 label)) n e

@@ -5,7 +5,7 @@ use mathlib.Core.Bool.{Bool, true, false, cond, _||_}
 use native.Mathlib.Omega.{arith}
 use native.Mathlib.Decide.{decLt}
 use lib.Dec.{ltb}
-use lib.IntN.{ℤ, pos, negsuc, natAbs, _+ℤ_, _-ℤ_, subℕ, +ℤ-assoc, +ℤ-comm, +ℤ-negℤ-cancel, -ℤ-+ℤ-cancel}
+use lib.IntN.{ℤ, pos, negsuc, natAbs, _+ℤ_, _-ℤ_, subℕ, +ℤ-assoc, +ℤ-comm, +ℤ-negℤ-cancel, -ℤ-+ℤ-cancel, +ℤ-idr}
 use lib.Signed.{ltZ}
 use borrow.Author.Tests.{ltb-true, ltb-false, lt-ltb, le-ltb, eq-eqb, eqb-true}
 use Rattle.numbers.specs.Range.{outside, since, eqZ}
@@ -81,6 +81,9 @@ pub not-below : (first : ℤ) (n : ℕ) → ltZ (first +ℤ pos n) first ≡ fal
 not-below (pos c) n = le-ltb (c + n) c (omega arith)
 not-below (negsuc c) n = on-sub (λ z. ltZ z (negsuc c) ≡ false) n (suc c) (λ l. le-ltb c (suc c - suc n) (omega arith)) (λ l. refl)
 
+pub not-below-itself : (z : ℤ) → ltZ z z ≡ false
+not-below-itself z = ap (λ (y : ℤ). ltZ y z) (sym (+ℤ-idr z)) ∙ not-below z 0
+
 -- not below a, and a not below b
 pub not-below-trans : (z a b : ℤ) → ltZ z a ≡ false → ltZ a b ≡ false → ltZ z b ≡ false
 not-below-trans z a b h k =
@@ -143,6 +146,13 @@ outside-no first last z = or-no (ltZ z first) (ltZ last z)
 
 pub not-outside : (first last z : ℤ) → ltZ z first ≡ false → ltZ last z ≡ false → outside first last z ≡ false
 not-outside first last z lo hi = ap₂ _||_ lo hi
+
+-- a number of a range lies in every wider one
+pub wider :
+    (first last low high z : ℤ) → ltZ first low ≡ false → ltZ high last ≡ false → outside first last z ≡ false → outside low high z ≡ false
+wider first last low high z p q h =
+    let t = outside-no first last z h in
+    not-outside low high z (not-below-trans z first low (t .0) p) (not-below-trans high last z q (t .1))
 
 pub below-outside : (first last z : ℤ) → ltZ z first ≡ true → outside first last z ≡ true
 below-outside first last z lo = ap (λ t. t || ltZ last z) lo

@@ -16,7 +16,7 @@ use mir.Val.{SFits}
 use Rattle.numbers.specs.Range.{outside, Within}
 use Rattle.numbers.proofs.Between.{inside-pos, outside-pos, natural-within}
 use Rattle.numbers.proofs.Bools.{no-both, or-no}
-use Rattle.numbers.proofs.Integers.{sub-neg, sub-pos}
+use Rattle.numbers.proofs.Integers.{sub-neg, sub-pos, wider}
 use Rattle.numbers.proofs.Machine.{read}
 use Rattle.transport.specs.Wraps.{half, lastValue, lastPosition, leadTo, stepTo, reached, positionAt}
 use Rattle.transport.specs.Answers.{badClock, notFollowed, followAnswer, clockAfter, ifRefused, soFar, oneMore, followAllAnswer}
@@ -87,10 +87,7 @@ bad-clock position heard h = go (outside (pos 0) lastValue heard)
 
 -- every value is a position too, and the first one of all is taken
 pub value-inside : (heard : ℤ) → outside (pos 0) lastValue heard ≡ false → outside (pos 0) lastPosition heard ≡ false
-value-inside heard h =
-    let w = natural-within 0 lastValue heard h in
-    let l = w .high in
-    ap (outside (pos 0) lastPosition) (w .is) ∙ inside-pos 0 (2 ^ 53) (natAbs heard) (omega arith) (omega arith)
+value-inside heard = wider (pos 0) lastValue (pos 0) lastPosition heard refl refl
 
 pub first-value : (heard : ℤ) → outside (pos 0) lastValue heard ≡ false → notFollowed Nothing heard ≡ false
 first-value heard h = some-value Nothing heard h refl ∙ value-inside heard h

@@ -5,11 +5,11 @@ use mathlib.Core.Bool.{Bool, true, false, cond}
 use native.Mathlib.Omega.{arith}
 use native.Mathlib.Nat.{add-zero, add-suc}
 use native.Mathlib.Numerals.{add-one}
-use lib.IntN.{ℤ, pos, natAbs, _+ℤ_, _-ℤ_, +ℤ-assoc, +ℤ-comm, +ℤ-idr, +ℤ-negℤ-cancel, -ℤ-+ℤ-cancel}
+use lib.IntN.{ℤ, pos, natAbs, _+ℤ_, _-ℤ_, +ℤ-assoc, +ℤ-comm, +ℤ-negℤ-cancel, -ℤ-+ℤ-cancel}
 use lib.Signed.{ltZ, nonNeg}
 use Rattle.numbers.specs.Floor.{floorRemainder}
 use Rattle.numbers.specs.Range.{outside, since}
-use Rattle.numbers.proofs.Integers.{on-sub, above, below, is-below, outside-no, since-add, not-below, not-below-trans}
+use Rattle.numbers.proofs.Integers.{on-sub, above, below, is-below, outside-no, since-add, not-below, not-below-itself, not-below-trans}
 use Rattle.numbers.proofs.Bools.{no-both}
 use Rattle.calendar.specs.Range.{firstCount}
 use Rattle.calendar.specs.declared.Date.{Date}
@@ -21,10 +21,7 @@ use Rattle.week.specs.Closed.{baseYear, baseCount, fromDay}
 use Rattle.week.proofs.Years.{first-day-step, first-day-monotone}
 use Rattle.week.proofs.Dates.{on-day}
 
--- not below itself, and one less is not above
-not-less : (z : ℤ) → ltZ z z ≡ false
-not-less z = subst (λ (y : ℤ). ltZ y z ≡ false) (+ℤ-idr z) (not-below z 0)
-
+-- one less is not above
 one-less : (z : ℤ) → ltZ z (z -ℤ pos 1) ≡ false
 one-less z = subst (λ (y : ℤ). ltZ y (z -ℤ pos 1) ≡ false) (-ℤ-+ℤ-cancel z (pos 1)) (not-below (z -ℤ pos 1) 1)
 
@@ -40,11 +37,11 @@ NotAfter year d = ltZ year (d .year) ≡ false
 previous-year : (d : Date) → NotAfter (d .year) (previousDay d)
 unfolding previousDay
 previous-year d =
-    one-of (NotAfter (d .year)) (ltZ (pos 1) (d .day)) (ltZ (pos 1) (d .month)) (not-less (d .year)) (not-less (d .year)) (one-less (d .year))
+    one-of (NotAfter (d .year)) (ltZ (pos 1) (d .day)) (ltZ (pos 1) (d .month)) (not-below-itself (d .year)) (not-below-itself (d .year)) (one-less (d .year))
 
 earlier-year : (n k : ℕ) → NotAfter (dateBefore n .year) (dateBefore (n + k))
 unfolding dateBefore
-earlier-year n zero = subst (λ m. NotAfter (dateBefore n .year) (dateBefore m)) (sym (add-zero n)) (not-less (dateBefore n .year))
+earlier-year n zero = subst (λ m. NotAfter (dateBefore n .year) (dateBefore m)) (sym (add-zero n)) (not-below-itself (dateBefore n .year))
 earlier-year n (suc k) =
     subst (λ m. NotAfter (dateBefore n .year) (dateBefore m)) (sym (add-suc n k))
     (not-below-trans (dateBefore n .year) (dateBefore (n + k) .year) _ (earlier-year n k) (previous-year (dateBefore (n + k))))
@@ -113,4 +110,4 @@ week-year-before z h = go (ltZ (thursdayOf z) baseCount) refl
         let n : thursdayOf z ≡ z +ℤ pos (suc (b .0) + a .0) =
         a .1 ∙ ap (λ (y : ℤ). y +ℤ pos (a .0)) (b .1) ∙ +ℤ-assoc z (pos (suc (b .0))) (pos (a .0)) in
         let l = to-thursday z (suc (b .0) + a .0) n in
-        subst (λ (y : ℤ). ltZ baseYear y ≡ false) (sym (ap (λ (y : ℤ). dateOn y .year) (a .1) ∙ base-year (a .0) (omega arith))) (not-less baseYear)
+        subst (λ (y : ℤ). ltZ baseYear y ≡ false) (sym (ap (λ (y : ℤ). dateOn y .year) (a .1) ∙ base-year (a .0) (omega arith))) (not-below-itself baseYear)

@@ -13,7 +13,7 @@ use borrow.Author.Tests.{lt-ltb, le-ltb}
 use Rattle.refusal.specs.Outcome.{value, refused}
 use Rattle.numbers.specs.Range.{outside}
 use Rattle.numbers.proofs.Between.{natural-within, inside-pos}
-use Rattle.numbers.proofs.Integers.{above, below, not-below, not-below-trans, since-add, outside-no, not-outside}
+use Rattle.numbers.proofs.Integers.{above, below, not-below, since-add, outside-no, wider}
 use Rattle.calendar.specs.Range.{firstYear, lastYear, firstCount, lastCount}
 use Rattle.calendar.specs.declared.Date.{Date}
 use Rattle.calendar.specs.Gregorian.{leapYear, monthLengths, monthLength, dateOf, nextDay, firstDate, dateAfter}
@@ -180,9 +180,7 @@ unfolding dateOn
 in-range z h = rw (outside-no firstCount lastCount z h .0)
 
 is-week-year : (year : ℤ) → outside firstYear lastYear year ≡ false → outside firstWeekYear lastWeekYear year ≡ false
-is-week-year year h =
-    let t = outside-no firstYear lastYear year h in
-    not-outside firstWeekYear lastWeekYear year (not-below-trans year firstYear firstWeekYear (t .0) refl) (t .1)
+is-week-year year = wider firstYear lastYear firstWeekYear lastWeekYear year refl refl
 
 pub week-of-fourth-of-january : (year z : ℤ) → daysAnswer year (pos 1) (pos 4) ≡ value z → weekAnswer z ≡ value (weekDate year (pos 1) (weekday z))
 unfolding weekAnswer

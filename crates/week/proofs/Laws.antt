@@ -9,7 +9,7 @@ use lib.Signed.{ltZ}
 use Rattle.refusal.specs.Outcome.{Outcome, value, refused}
 use Rattle.refusal.proofs.Outcomes.{clash, passes, same-value}
 use Rattle.numbers.specs.Range.{outside, since}
-use Rattle.numbers.proofs.Integers.{add-since}
+use Rattle.numbers.proofs.Integers.{add-since, wider}
 use Rattle.numbers.proofs.Between.{natural-within, inside-pos, inside-from}
 use Rattle.numbers.proofs.Bools.{no-both}
 use Rattle.calendar.specs.Range.{firstCount, lastCount}
@@ -231,10 +231,7 @@ pub week-date-is-right : (z : ℤ) → outside firstCount lastCount z ≡ false 
     (outside (pos 1) (pos 53) (weekDateOf z .week) ≡ false) × (outside (pos 1) (pos 7) (weekDateOf z .weekday) ≡ false)
 week-date-is-right z h =
     let w = weekDateOf z in (
-      ⊎-elim (λ a. wider (w .week) (a .week-of (w .week) (w .weekday) (record { day = z; has = refl }))) (λ a. a .week-of (w .week) (w .weekday) (record { day = z; has = refl }))
+      ⊎-elim (λ a. wider (pos 1) (pos 52) (pos 1) (pos 53) (w .week) refl refl (a .week-of (w .week) (w .weekday) (record { day = z; has = refl }))) (λ a. a .week-of (w .week) (w .weekday) (record { day = z; has = refl }))
           (fifty-two-or-fifty-three (w .year) (week-year-is-in-range z h)),
       ap (outside (pos 1) (pos 7)) (week-date-weekday z) ∙ weekday-is-in-range z,
     )
-  where
-    wider : (week : ℤ) → outside (pos 1) (pos 52) week ≡ false → outside (pos 1) (pos 53) week ≡ false
-    wider week k = let n = natural-within 1 (pos 52) week k in ap (outside (pos 1) (pos 53)) (n .is) ∙ inside-pos 1 53 (natAbs week) (n .low) (omega (arith, n .high))
