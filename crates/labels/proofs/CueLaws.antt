@@ -7,28 +7,24 @@ use mathlib.Core.List.{List}
 use native.Mathlib.Omega.{arith}
 use lib.IntN.{ℤ, pos}
 use lib.Signed.{ltZ}
-use Rattle.refusal.specs.Outcome.{Outcome, value, refused, andThen}
+use Rattle.refusal.specs.Outcome.{Outcome, value, refused}
 use Rattle.refusal.proofs.Outcomes.{clash, same-value}
 use Rattle.numbers.specs.Range.{outside}
 use Rattle.labels.specs.Webvtt.{lastPosition}
 use Rattle.labels.specs.Timestamps.{isTimestamp, positionOf, positionAnswer}
 use Rattle.labels.specs.CueLines.{CueLine, Timing, between, of-none}
 use Rattle.labels.specs.Timings.{timingOf}
-use Rattle.labels.specs.Cues.{cueOf, cueLineAnswer, InOrder, AboveLimit, NotLater}
+use Rattle.labels.specs.Cues.{cueBetween, cueOf, cueLineAnswer, InOrder, AboveLimit, NotLater}
 use Rattle.labels.specs.declared.webvtt.Cue.{Cue}
 use Rattle.labels.proofs.CueParts.{cue-line, no-cue-line}
 use Rattle.labels.proofs.ReadBack.{position-in-range}
 
 -- ---- two timestamps
 
--- what the answers to two timestamps make
-abbrev both : (a b : Outcome ℤ) → Outcome Cue
-both a b = andThen a (λ start. andThen b (λ end. cond (ltZ start end) (value (record { start = start; end = end })) (refused 13)))
-
 module _ (first second : List ℕ) where
-  pair : {a b : Outcome ℤ} → positionAnswer first ≡ a → positionAnswer second ≡ b → cueOf first second ≡ both a b
+  pair : {a b : Outcome ℤ} → positionAnswer first ≡ a → positionAnswer second ≡ b → cueOf first second ≡ cueBetween a b
   unfolding cueOf
-  pair p q = ap₂ both p q
+  pair p q = ap₂ cueBetween p q
 
   -- and of two positions in the range
   order :

@@ -8,12 +8,11 @@ use borrow.Author.Tests.{eqb-false, ne-eqb, lt-ltb, le-ltb}
 use lib.Bits.{bitOr, or-lt, or-add-and, and-le-l, and-le-r}
 use lib.Dec.{eqb, ltb}
 use lib.IntN.{pos}
-use lib.Signed.{ltZ}
-use Rattle.refusal.specs.Outcome.{Outcome, value, refused, andThen}
+use Rattle.refusal.specs.Outcome.{Outcome, value, refused}
 use Rattle.numbers.proofs.Bools.{no-both}
 use Rattle.labels.specs.Timestamps.{isTimestamp, positionOf, positionAnswer}
 use Rattle.labels.specs.Timings.{hasArrow, firstOf, secondOf, isCueLine, is-cue, parts}
-use Rattle.labels.specs.Cues.{cueOf, cueLineAnswer}
+use Rattle.labels.specs.Cues.{cueBetween, cueOf, cueLineAnswer}
 use Rattle.labels.specs.Stamps.{wrong, beyond, stampOf, Stamp, no-timestamp, above-limit, in-range, cueOfStamps}
 use Rattle.labels.specs.declared.webvtt.Cue.{Cue}
 use Rattle.labels.proofs.CueParts.{cue-line, no-cue-line}
@@ -96,9 +95,8 @@ small-not p n h l = ne-eqb p n (λ e. omega arith)
 -- the refusals of two positions, then their order
 abbrev ordered : (first second : List ℕ) → (t u o r : Bool) → Outcome Cue
 ordered first second t u o r =
-    andThen (cond t (cond o (refused 6) (value (pos (positionOf first)))) (refused 13)) (λ start.
-    andThen (cond u (cond r (refused 6) (value (pos (positionOf second)))) (refused 13)) (λ end.
-    cond (ltZ start end) (value (record { start = start; end = end })) (refused 13)))
+    cueBetween (cond t (cond o (refused 6) (value (pos (positionOf first)))) (refused 13))
+    (cond u (cond r (refused 6) (value (pos (positionOf second)))) (refused 13))
 
 pub cue-of-texts : (first second : List ℕ) → isTimestamp first ≡ true → isTimestamp second ≡ true → cueOf first second ≡ cueOfStamps (stampOf first) (stampOf second)
 unfolding cueOf positionAnswer

@@ -21,12 +21,14 @@ abbrev pub cueOutcome : CueAnswer → Outcome Cue
 cueOutcome (C.Value cue) = value cue
 cueOutcome (C.Refused r) = refused (refusalNumber r)
 
--- the cue of two timestamps: 6 for either position, then 13 for an end not later than the start
+-- the cue of the answers to two timestamps: the refusals of either, then 13 for an end not later than the start
+abbrev pub cueBetween : (first second : Outcome ℤ) → Outcome Cue
+cueBetween first second =
+    andThen first (λ start. andThen second (λ end. cond (ltZ start end) (value (record { start = start; end = end })) (refused 13)))
+
+-- the cue of two timestamps: 6 for either position, then 13
 unfoldable pub cueOf : (first second : List ℕ) → Outcome Cue
-cueOf first second =
-    andThen (positionAnswer first) (λ start.
-    andThen (positionAnswer second) (λ end.
-    cond (ltZ start end) (value (record { start = start; end = end })) (refused 13)))
+cueOf first second = cueBetween (positionAnswer first) (positionAnswer second)
 
 abbrev pub timingAnswer : {line : List ℕ} → Timing line → Outcome Cue
 timingAnswer (between first second parts) = cueOf first second

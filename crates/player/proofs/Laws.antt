@@ -31,8 +31,7 @@ use Rattle.labels.specs.Webvtt.{lastPosition, positionLabel}
 use Rattle.labels.specs.Timestamps.{isTimestamp, positionOf, positionAnswer}
 use Rattle.labels.specs.CueLines.{Timing, between, of-none}
 use Rattle.labels.specs.Timings.{timingOf}
-use Rattle.labels.specs.Cues.{cueOf, timingAnswer, cueLineAnswer}
-use Rattle.labels.specs.declared.webvtt.Cue.{Cue}
+use Rattle.labels.specs.Cues.{cueBetween, cueOf, timingAnswer, cueLineAnswer}
 use Rattle.constants.specs.Least.{Found, at, none, leastBelow}
 use Rattle.constants.specs.Limits.{lastEnd, outsideLimits, endOutside, boundOutside}
 use Rattle.constants.specs.Answers.{difference, differenceAnswer, claimed, boundAnswer}
@@ -216,7 +215,7 @@ unfolding cueLineAnswer cueOf
 read-cue-tells line = go (timingOf line)
   where
     both : (a b : Outcome ℤ) → Tells returned a → Tells returned b →
-        Tells {A = Cue} returnedDone (andThen a (λ start. andThen b (λ end. cond (ltZ start end) (value (record { start = start; end = end })) (refused 13))))
+        Tells returnedDone (cueBetween a b)
     both (value start) (value end) p q = guarded returnedDone (ltZ start end) _ _ (told refl) (told refl)
     both (value start) (refused number) p q = told (q .exactly)
     both (value start) (refusedAt number place) p q = told (q .exactly)
