@@ -1,7 +1,7 @@
 -- The calendar by steps is the closed forms: the date n days after the first is the one date with the day number cycle + n.
 use Prim.Native.Nat.{ℕ, zero, suc, _+_, _≤_, _<_}
 use mathlib.Core.Path.{_≡_, refl, sym, ap, _∙_, subst}
-use mathlib.Core.Bool.{Bool, true, false, _&&_}
+use mathlib.Core.Bool.{Bool, true, false}
 use native.Mathlib.Decide.{decLt}
 use native.Mathlib.Nat.{add-zero, zero-add, add-suc, suc-add}
 use native.Mathlib.Omega.{arith, by-contra}
@@ -9,7 +9,7 @@ use lib.IntN.{pos, natAbs, _+ℤ_, +ℤ-assoc}
 use borrow.Author.Tests.{lt-ltb, le-ltb}
 use Rattle.numbers.specs.Range.{eqZ}
 use Rattle.numbers.proofs.Integers.{eqZ-same, eqZ-true, add-injective}
-use Rattle.numbers.proofs.Bools.{no-both}
+use Rattle.numbers.proofs.Bools.{and-left, and-right}
 use Rattle.calendar.specs.declared.Date.{Date}
 use Rattle.calendar.specs.Range.{firstCount}
 use Rattle.calendar.specs.Gregorian.{dateOf, nextDay, firstDate, dateAfter}
@@ -159,17 +159,12 @@ one-number a b e =
 same-date : (d : Date) → sameDate d d ≡ true
 same-date d = simp (eqZ-same (d .year), eqZ-same (d .month), eqZ-same (d .day))
 
-and-true : (a b : Bool) → (a && b) ≡ true → (a ≡ true) × (b ≡ true)
-and-true true b h = (refl, h)
-and-true false b h = no-both false h refl
-
 date-same : (d e : Date) → sameDate d e ≡ true → d ≡ e
 date-same d e h =
-    let a = and-true (eqZ (d .year) (e .year)) (eqZ (d .month) (e .month) && eqZ (d .day) (e .day)) h in
-    let b = and-true (eqZ (d .month) (e .month)) (eqZ (d .day) (e .day)) (a .1) in
-    let p = eqZ-true (d .year) (e .year) (a .0) in
-    let q = eqZ-true (d .month) (e .month) (b .0) in
-    let r = eqZ-true (d .day) (e .day) (b .1) in
+    let rest = and-right (eqZ (d .year) (e .year)) _ h in
+    let p = eqZ-true (d .year) (e .year) (and-left (eqZ (d .year) (e .year)) _ h) in
+    let q = eqZ-true (d .month) (e .month) (and-left (eqZ (d .month) (e .month)) _ rest) in
+    let r = eqZ-true (d .day) (e .day) (and-right (eqZ (d .month) (e .month)) _ rest) in
     λ i. record { year = p i; month = q i; day = r i }
 
 other-date : (a b : ℕ) → a < b → sameDate (dateAfter a) (dateAfter b) ≡ false

@@ -1,7 +1,7 @@
 -- A list with the first instant of the range in front and the last behind it: it is faulty exactly if an instant is bad or falls.
 use Prim.Native.Nat.{ℕ, zero, suc, _+_, _-_, _≤_, _<_}
 use mathlib.Core.Path.{_≡_, refl, sym, ap, _∙_}
-use mathlib.Core.Bool.{Bool, true, false, cond, _||_}
+use mathlib.Core.Bool.{Bool, true, false, cond, _||_, or-assoc, or-false}
 use mathlib.Core.List.{List, [], _∷_, _++_, append-assoc}
 use native.Mathlib.Nat.{add-zero}
 use native.Mathlib.Numerals.{add-one}
@@ -95,19 +95,11 @@ lastOf : (before : ℤ) → List ℤ → ℤ
 lastOf before [] = before
 lastOf before (x ∷ s) = lastOf x s
 
-or-assoc : (a b c : Bool) → a || (b || c) ≡ (a || b) || c
-or-assoc true b c = refl
-or-assoc false b c = refl
-
-or-false : (a : Bool) → a || false ≡ a
-or-false true = refl
-or-false false = refl
-
 falls-append : (before : ℤ) (s t : List ℤ) → fallsFrom before (s ++ t) ≡ fallsFrom before s || fallsFrom (lastOf before s) t
 unfolding fallsFrom lastOf
 falls-append before [] t = refl
 falls-append before (x ∷ s) t =
-    ap (λ b. ltZ x before || b) (falls-append x s t) ∙ or-assoc (ltZ x before) (fallsFrom x s) (fallsFrom (lastOf x s) t)
+    ap (λ b. ltZ x before || b) (falls-append x s t) ∙ sym (or-assoc (ltZ x before) (fallsFrom x s) (fallsFrom (lastOf x s) t))
 
 -- the last instant of the range behind the list
 pub falls-end : (s : List ℤ) (before : ℤ) (i : ℕ) → length s ≤ i → fallsFrom before (toLast (drop i s)) ≡ ltZ lastInstant before
@@ -174,5 +166,5 @@ unfolding fallsFrom
 by-places tests before s i zero e = ap (λ (r : List ℤ). tests || fallsFrom before r) (drop-of-length-le s {i = i} (omega arith)) ∙ or-false tests
 by-places tests before s i (suc k) e =
     ap (λ (r : List ℤ). tests || fallsFrom before r) (drop-cons s i (pos 0) (omega arith))
-    ∙ or-assoc tests (ltZ (getD s i (pos 0)) before) (fallsFrom (getD s i (pos 0)) (drop (suc i) s))
+    ∙ sym (or-assoc tests (ltZ (getD s i (pos 0)) before) (fallsFrom (getD s i (pos 0)) (drop (suc i) s)))
     ∙ by-places (tests || ltZ (getD s i (pos 0)) before) (getD s i (pos 0)) s (suc i) k (omega arith)

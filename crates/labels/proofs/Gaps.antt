@@ -1,10 +1,10 @@
 -- The bytes of a text against those of a shape without T and Z, in numbers that hold all of them.
 use Prim.Native.Nat.{ℕ, _+_, _*_, _≤_, _<_}
-use mathlib.Core.Path.{_≡_, refl, sym, ap, ap₂, _∙_}
+use mathlib.Core.Path.{_≡_, refl, ap, ap₂, _∙_}
 use mathlib.Core.Bool.{Bool, true, false, cond, not, _&&_}
 use mathlib.Core.List.{List, [], _∷_}
 use native.Mathlib.Omega.{arith}
-use borrow.Author.Tests.{leb-true}
+use borrow.Author.Tests.{leb-true, not-true}
 use lib.Bits.{bitXor, xor-block}
 use lib.Dec.{eqb, leb}
 use lib.ListN.{length}
@@ -43,11 +43,7 @@ simple-low [] p = tt
 simple-low (s ∷ ss) p = (leb-true s 118 (and-left (leb s 118) _ p), simple-low ss (and-right (not (hasSmall s)) _ (and-right (leb s 118) _ p)))
 
 pub simple-first : (s : ℕ) (ss : List ℕ) → simple (s ∷ ss) ≡ true → hasSmall s ≡ false
-simple-first s ss p = go (hasSmall s) (and-left (not (hasSmall s)) _ (and-right (leb s 118) _ p))
-  where
-    go : (t : Bool) → not t ≡ true → t ≡ false
-    go true e = sym e
-    go false e = refl
+simple-first s ss p = not-true (hasSmall s) (and-left (not (hasSmall s)) _ (and-right (leb s 118) _ p))
 
 pub simple-rest : (s : ℕ) (ss : List ℕ) → simple (s ∷ ss) ≡ true → simple ss ≡ true
 simple-rest s ss p = and-right (not (hasSmall s)) _ (and-right (leb s 118) _ p)

@@ -6,7 +6,7 @@ use mathlib.Core.Logic.{_⊎_, inl, inr, ⊎-elim}
 use mathlib.Core.Bool.{Bool, true, false, cond, not, _&&_, _||_}
 use mathlib.Core.List.{List, [], _∷_, _++_}
 use native.Mathlib.Omega.{arith}
-use borrow.Author.Tests.{eqb-true, leb-true, ltb-true, lt-ltb, ne-eqb}
+use borrow.Author.Tests.{eqb-true, leb-true, ltb-true, lt-ltb, ne-eqb, not-true}
 use lib.Dec.{eqb, leb, ltb}
 use lib.ListN.{length, take, drop, take-append-drop}
 use lib.Seq.{take-at, drop-at, drop-drop, length-take-le}
@@ -156,11 +156,7 @@ blanks-first (b ∷ bs) more h = ap not (and-left (isBlank b) _ h)
 
 solid-first : (text : List ℕ) → AllAre false text → starts true text ≡ false
 solid-first [] h = refl
-solid-first (b ∷ bs) h = flip (isBlank b) (h .0)
-  where
-    flip : (t : Bool) → not t ≡ true → t ≡ false
-    flip true e = no-both false e refl
-    flip false e = refl
+solid-first (b ∷ bs) h = not-true (isBlank b) (h .0)
 
 run-blank : (text : List ℕ) → allBlank (take (run true text) text) ≡ true
 run-blank [] = refl
