@@ -2,7 +2,7 @@
 use Prim.Native.Nat.{ℕ, _+_, _-_, _*_, _/_, _%_, _^_, _≤_, _<_}
 use mathlib.Core.Path.{_≡_, refl, sym, ap, _∙_, subst}
 use mathlib.Core.Bool.{Bool, true, false, cond}
-use mathlib.Core.List.{List, [], _∷_, _++_, append-assoc, append-nil}
+use mathlib.Core.List.{List, [], _∷_, _++_, append-assoc}
 use native.Mathlib.Nat.{div-div-eq-div-mul}
 use native.Mathlib.Omega.{arith}
 use borrow.Author.Tests.{ltb-true, ltb-false, lt-ltb}
@@ -17,6 +17,7 @@ use Rattle.refusal.specs.Outcome.{value, refused}
 use Rattle.numbers.specs.Range.{outside}
 use Rattle.numbers.proofs.Between.{natural-within, read-high, inside-pos}
 use Rattle.numbers.proofs.Bools.{no-both}
+use Rattle.numbers.proofs.Integers.{wider}
 use Rattle.numbers.proofs.Machine.{read}
 use Rattle.labels.specs.Digits.{digits}
 use Rattle.labels.specs.Clock.{colon, clockText}
@@ -50,9 +51,7 @@ module _ {z : ℤ} (f : SFits w64 z) where
 
   -- the last position with two digits of hours is in the range, and a position is beyond it or not
   pub short-in-range : outside (pos 0) lastShort z ≡ false → outside (pos 0) lastPosition z ≡ false
-  short-in-range h =
-      let w = natural-within 0 lastShort z h in
-      ap (outside (pos 0) lastPosition) (w .is) ∙ inside-pos 0 (natAbs lastPosition) (natAbs z) (omega arith) (omega (arith, w .high))
+  short-in-range h = wider (pos 0) lastShort (pos 0) lastPosition z refl refl h
 
   pub short-below : outside (pos 0) lastShort z ≡ false → natAbs (read z) < 360000000
   short-below h = omega (arith, read-high f (natural-within 0 lastShort z h))

@@ -7,7 +7,7 @@ ghost use Prim.Native.Nat.{_+_, _*_, _/_, _%_, _<_};
 // where the one call of it stands in a loop in a loop.
 pub fn text_of(n: u32) -> u64
     requires { ⌜ n < 100 ⌝ }
-    ensures { λ r. ⌜ r ≡ 12336 + 256 * (n % 10) + n / 10 ⌝ }
+    ensures { λ r. ⌜ r ≡ 48 + n / 10 + 256 * (48 + n % 10) ⌝ }
 {
     match n {
         0 => 0x3030,

@@ -1,9 +1,7 @@
 use Prim.Native.Nat.{_-_, _/_, _%_, _≤_}
-use mathlib.Core.Path.{_≡_, refl, ap, _∙_}
+use mathlib.Core.Path.{_≡_, refl}
 use native.Mathlib.Omega.{arith}
-use lib.ListN.{length}
 use Rattle.labels.specs.WeekPieces.{pieces}
-use Rattle.labels.proofs.Filled.{filled-length}
 use Rattle.labels.proofs.Pieces.{Placed, none-placed, more-placed, all-placed}
 use Rattle.labels.proofs.WeekTexts.{week-filled}
 use borrow.Author.Needs.{needs}

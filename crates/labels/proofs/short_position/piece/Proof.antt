@@ -1,11 +1,9 @@
-use Prim.Native.Nat.{ℕ, _+_, _*_, _/_, _%_, _<_, _^_}
-use mathlib.Core.Path.{_≡_, refl, sym, ap, ap₂, _∙_}
-use mathlib.Core.List.{[], _∷_, _++_}
-use native.Mathlib.Omega.{arith}
-use Rattle.labels.specs.Digits.{digits}
-use Rattle.labels.specs.Words.{word, bytesOf}
+use Prim.Native.Nat.{_*_}
+use mathlib.Core.Path.{sym, ap₂, _∙_}
+use mathlib.Core.List.{_++_}
 use Rattle.labels.specs.PositionPieces.{shortText}
-use Rattle.labels.proofs.Words.{all-bytes, part-two}
+use Rattle.labels.proofs.Words.{part-two}
+use Rattle.labels.proofs.DigitWords.{three-stored}
 use borrow.Author.Needs.{needs}
 use Rattle.labels.proofs.short_position.piece.Statement.{statement}
 use Rattle.labels.proofs.short_position.piece.Tie as tie
@@ -31,18 +29,12 @@ mul-result c = search needs
 add-result : tie.Need-add-result
 add-result c = search needs
 
--- two digits and a byte as one number
-three-bytes : (n byte r : ℕ) → n < 100 → byte < 2 ^ 8 → r ≡ 12336 + 256 * (n % 10) + n / 10 → (r + byte * 65536 < 2 ^ 24) × (bytesOf 3 (r + byte * 65536) ≡ digits n 2 ++ byte ∷ [])
-three-bytes n byte r h k e =
-    let w : r + byte * 65536 ≡ word (digits n 2 ++ byte ∷ []) = omega arith in
-    (omega arith, all-bytes (digits n 2 ++ byte ∷ []) w (omega arith, (omega arith, (omega arith, tt))) refl)
-
 returns : tie.Need-returns
 returns c =
     let s = c .before .before .before in
     let n = c .before .before .number-at in
     let b = c .last-byte in
-    let t = three-bytes (n .result) (b .result) (c .before .text-of .result) (n .ensures .0) (b .ensures .0) (c .before .text-of .ensures) in (
+    let t = three-stored (n .result) (n .ensures .0) (c .before .text-of .ensures) (b .result) (b .ensures .0) in (
       t .0,
       t .1 ∙ ap₂ _++_ (n .ensures .1) (b .ensures .1) ∙ sym (part-two (3 * s .args .i) 2 1 (shortText (s .args .minutes) (s .args .rest))),
     )
