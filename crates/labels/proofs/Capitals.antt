@@ -1,6 +1,6 @@
 -- Small letters: every label is answered as document 01's reader answers it in capitals, and refusal 8 shrinks by the forms with small
 -- letters.
-use Prim.Native.Nat.{ℕ, _≤_, _<_}
+use Prim.Native.Nat.{ℕ, _+_, _≤_, _<_}
 use mathlib.Core.Path.{_≡_, refl, sym, ap, ap₂, _∙_}
 use mathlib.Core.Logic.{_↔_, ⊎-elim}
 use mathlib.Core.Bool.{Bool, true, false, cond, not, _&&_, _||_, and-false}
@@ -169,28 +169,35 @@ module _ (label : List ℕ) where
   pub in-shape-exactly : in-shape ≡ exactly || isSmallForm label
   in-shape-exactly = four-forms (digits 0 2 ++ colon ∷ clockText decimals 0 0 0) refl dateShape label refl
 
-  -- in capitals, such a label differs in its bytes 10 and 23 at most
+  -- the bytes between the letters, and the place of the last one
+  abbrev inside : ℕ
+  inside = 9 + decimals
+
+  abbrev lastByte : ℕ
+  lastByte = 11 + inside
+
+  -- in capitals, such a label differs in byte 10 and in the last one at most
   pub two-letters :
-      in-shape ≡ true → inCapitals label ≡ take 10 label ++ (capital (getD label 10 0) ∷ (partOf 11 12 label ++ (capital (getD label 23 0) ∷ [])))
+      in-shape ≡ true → inCapitals label ≡ take 10 label ++ (capital (getD label 10 0) ∷ (partOf 11 inside label ++ (capital (getD label lastByte 0) ∷ [])))
   two-letters h =
       let middle = digits 0 2 ++ colon ∷ clockText decimals 0 0 0 in
       let l = fits-length (dateShape ++ timeShape decimals) label h in
       let a : 10 < length label = omega arith in
-      let b : 23 < length label = omega arith in
-      let c : length label ≤ 24 = omega arith in
+      let b : lastByte < length label = omega arith in
+      let c : length label ≤ lastByte + 1 = omega arith in
       let date = sym (fits-append dateShape (timeShape decimals) label) ∙ h in
       let time = sym (ap (fits (timeShape decimals)) (drop-cons label 10 0 a)) ∙ and-right (fits dateShape (take 10 label)) _ date in
       let rest = sym (fits-from middle (letterZ ∷ []) label 11) ∙ and-right (fitsOne letterT (getD label 10 0)) _ time in
       let front : inCapitals (take 10 label) ≡ take 10 label = no-letters dateShape (take 10 label) refl refl (and-left (fits dateShape (take 10 label)) _ date) in
-      let inside : inCapitals (partOf 11 12 label) ≡ partOf 11 12 label =
-      no-letters middle (partOf 11 12 label) refl refl (and-left (fits middle (partOf 11 12 label)) _ rest) in
-      let end : inCapitals (drop 12 (drop 11 label)) ≡ capital (getD label 23 0) ∷ [] =
-      ap inCapitals (drop-drop 12 11 label ∙ drop-cons label 23 0 b) ∙ ap (λ r. capital (getD label 23 0) ∷ inCapitals r) (drop-of-length-le label c) in
-      let behind : inCapitals (drop 11 label) ≡ partOf 11 12 label ++ capital (getD label 23 0) ∷ [] =
-      ap inCapitals (sym (take-append-drop 12 (drop 11 label)))
-      ∙ map-append capital (partOf 11 12 label) (drop 12 (drop 11 label))
-      ∙ (λ i. inside i ++ end i) in
-      let back : inCapitals (drop 10 label) ≡ capital (getD label 10 0) ∷ (partOf 11 12 label ++ capital (getD label 23 0) ∷ []) =
+      let middle-same : inCapitals (partOf 11 inside label) ≡ partOf 11 inside label =
+      no-letters middle (partOf 11 inside label) refl refl (and-left (fits middle (partOf 11 inside label)) _ rest) in
+      let end : inCapitals (drop inside (drop 11 label)) ≡ capital (getD label lastByte 0) ∷ [] =
+      ap inCapitals (drop-drop inside 11 label ∙ drop-cons label lastByte 0 b) ∙ ap (λ r. capital (getD label lastByte 0) ∷ inCapitals r) (drop-of-length-le label c) in
+      let behind : inCapitals (drop 11 label) ≡ partOf 11 inside label ++ capital (getD label lastByte 0) ∷ [] =
+      ap inCapitals (sym (take-append-drop inside (drop 11 label)))
+      ∙ map-append capital (partOf 11 inside label) (drop inside (drop 11 label))
+      ∙ (λ i. middle-same i ++ end i) in
+      let back : inCapitals (drop 10 label) ≡ capital (getD label 10 0) ∷ (partOf 11 inside label ++ capital (getD label lastByte 0) ∷ []) =
       ap inCapitals (drop-cons label 10 0 a) ∙ ap (λ r. capital (getD label 10 0) ∷ r) behind in
       ap inCapitals (sym (take-append-drop 10 label)) ∙ map-append capital (take 10 label) (drop 10 label) ∙ (λ i. front i ++ back i)
 

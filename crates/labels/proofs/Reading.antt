@@ -118,19 +118,22 @@ module _ (a b c d : ℕ) {v : ℕ} (r : ValuesRead fractionShape (a ∷ b ∷ c 
   decimals-number = number-is decimals-read
 
 -- the shape of a time: a letter, `HH:MM:SS`, `.mmm`, and a letter at the end
-module _ (part : List ℕ) (l : length part ≡ 14) where
-  last-letter : fits (letterZ ∷ []) (drop 13 part) ≡ fitsOne letterZ (getD part 13 0)
+module _ (part : List ℕ) (l : length part ≡ 11 + decimals) where
+  abbrev zAt : ℕ
+  zAt = 10 + decimals
+
+  last-letter : fits (letterZ ∷ []) (drop zAt part) ≡ fitsOne letterZ (getD part zAt 0)
   last-letter =
-      let h : 13 < length part = omega arith in
-      let k : length part ≤ 14 = omega arith in
-      ap (fits (letterZ ∷ [])) (drop-cons part 13 0 h)
-      ∙ ap (λ r. fitsOne letterZ (getD part 13 0) && fits [] r) (drop-of-length-le part k)
-      ∙ and-true (fitsOne letterZ (getD part 13 0))
+      let h : zAt < length part = omega arith in
+      let k : length part ≤ zAt + 1 = omega arith in
+      ap (fits (letterZ ∷ [])) (drop-cons part zAt 0 h)
+      ∙ ap (λ r. fitsOne letterZ (getD part zAt 0) && fits [] r) (drop-of-length-le part k)
+      ∙ and-true (fitsOne letterZ (getD part zAt 0))
 
   abbrev both-fit : Bool
   both-fit = fits clockShape (partOf 1 8 part) && fits fractionShape (partOf 9 4 part)
 
-  time-by-parts : fits (timeShape decimals) part ≡ fitsOne letterT (getD part 0 0) && (both-fit && fitsOne letterZ (getD part 13 0))
+  time-by-parts : fits (timeShape decimals) part ≡ fitsOne letterT (getD part 0 0) && (both-fit && fitsOne letterZ (getD part zAt 0))
   time-by-parts =
       let h : 0 < length part = omega arith in
       ap (fits (timeShape decimals)) (drop-cons part 0 0 h)
@@ -146,9 +149,9 @@ module _ (part : List ℕ) (l : length part ≡ 14) where
         sym (ap (λ t. cond t (joined year month day (numberAt 1 2 part) (numberAt 4 2 part) (numberAt 7 2 part) (numberAt 10 decimals part)) (refused 8)) (e ∙ f))
 
     pub wrong-first : fitsOne letterT (getD part 0 0) ≡ false → refused 8 ≡ readTime year month day part
-    wrong-first e = unless _ time-by-parts (ap (λ t. t && (both-fit && fitsOne letterZ (getD part 13 0))) e)
+    wrong-first e = unless _ time-by-parts (ap (λ t. t && (both-fit && fitsOne letterZ (getD part zAt 0))) e)
 
-    pub wrong-last : fitsOne letterZ (getD part 13 0) ≡ false → refused 8 ≡ readTime year month day part
+    pub wrong-last : fitsOne letterZ (getD part zAt 0) ≡ false → refused 8 ≡ readTime year month day part
     wrong-last e =
         unless _ time-by-parts
         (ap (λ t. fitsOne letterT (getD part 0 0) && (both-fit && t)) e ∙ ap (λ t. fitsOne letterT (getD part 0 0) && t) (and-false both-fit) ∙ and-false (fitsOne letterT (getD part 0 0)))
@@ -156,7 +159,7 @@ module _ (part : List ℕ) (l : length part ≡ 14) where
     pub wrong-digits : both-fit ≡ false → refused 8 ≡ readTime year month day part
     wrong-digits e =
         unless _ time-by-parts
-        (ap (λ t. fitsOne letterT (getD part 0 0) && (t && fitsOne letterZ (getD part 13 0))) e ∙ and-false (fitsOne letterT (getD part 0 0)))
+        (ap (λ t. fitsOne letterT (getD part 0 0) && (t && fitsOne letterZ (getD part zAt 0))) e ∙ and-false (fitsOne letterT (getD part 0 0)))
 
   pub clock-read : {v : ℕ} → ValuesRead clockShape (partOf 1 8 part) v → ClockValues v
   clock-read {v} r =
@@ -172,13 +175,13 @@ module _ (part : List ℕ) (l : length part ≡ 14) where
   pub fraction-read : {v : ℕ} → ValuesRead fractionShape (partOf 9 4 part) v → Thousandths v
   fraction-read r = decimals-read (getD part 9 0) (getD part 10 0) (getD part 11 0) (getD part 12 0) (fraction-bytes r)
 
-  decimals-are : {v : ℕ} → ValuesRead fractionShape (partOf 9 4 part) v → numberOf v 4 ≡ numberAt 10 3 part
+  decimals-are : {v : ℕ} → ValuesRead fractionShape (partOf 9 4 part) v → numberOf v 4 ≡ numberAt 10 decimals part
   decimals-are r =
       decimals-number (getD part 9 0) (getD part 10 0) (getD part 11 0) (getD part 12 0) (fraction-bytes r)
       ∙ sym (ap number (part-three 10 part (omega arith)) ∙ omega arith)
 
   pub time-read :
-      (year month day clock fraction : ℕ) → fitsOne letterT (getD part 0 0) ≡ true → fitsOne letterZ (getD part 13 0) ≡ true →
+      (year month day clock fraction : ℕ) → fitsOne letterT (getD part 0 0) ≡ true → fitsOne letterZ (getD part zAt 0) ≡ true →
       ValuesRead clockShape (partOf 1 8 part) clock → ValuesRead fractionShape (partOf 9 4 part) fraction →
       joinedValues year month day clock fraction ≡ readTime year month day part
   time-read year month day clock fraction t z r q =
