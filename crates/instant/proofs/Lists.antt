@@ -3,34 +3,21 @@ use Prim.Native.Nat.{ℕ, zero, suc, _+_, _≤_, _<_}
 use mathlib.Core.Path.{_≡_, refl, sym, ap, _∙_}
 use mathlib.Core.Bool.{Bool, true, false, cond}
 use mathlib.Core.List.{List, [], _∷_, _++_, map, append-nil}
+use native.Mathlib.Decide.{decLt}
 use native.Mathlib.Nat.{zero-add}
 use native.Mathlib.Numerals.{add-one}
 use native.Mathlib.Omega.{arith}
 use lib.IntN.{ℤ, pos}
-use lib.ListN.{length, getD, take, drop, set, drop-of-length-le}
-use lib.Seq.{drop-cons, paste, paste-suc, take-all}
+use lib.ListN.{length, getD, take, set, drop-of-length-le}
+use lib.Seq.{paste, paste-suc, take-all}
 use borrow.Author.Tests.{eq-eqb, ne-eqb, lt-ltb, le-ltb}
 use Rattle.refusal.specs.Outcome.{Outcome, value, refused, refusedAt, afterCall}
+use Rattle.numbers.specs.Range.{FirstPlace}
+use Rattle.numbers.proofs.Bools.{no-both}
+use Rattle.instant.specs.Units.{firstInstant, lastInstant}
 use Rattle.instant.specs.Instant.{dayOf}
 use Rattle.instant.specs.Answers.{badInstant, firstBad, firstFall, indexDaysAnswer, indexDays}
 use Rattle.instant.specs.Order.{FirstBadAt}
-
--- at place i of a list
-module _ (s : List ℤ) (i : ℕ) where
-  pub bad-end : length s ≤ i → firstBad (drop i s) ≡ 0
-  unfolding firstBad
-  bad-end h = ap firstBad (drop-of-length-le s h)
-
-  module _ (l : i < length s) where
-    at-place : firstBad (drop i s) ≡ cond (badInstant (getD s i (pos 0))) 0 (suc (firstBad (drop (suc i) s)))
-    unfolding firstBad
-    at-place = ap firstBad (drop-cons s i (pos 0) l)
-
-    pub bad-here : badInstant (getD s i (pos 0)) ≡ true → firstBad (drop i s) ≡ 0
-    bad-here h = at-place ∙ ap (λ t. cond t 0 (suc (firstBad (drop (suc i) s)))) h
-
-    pub bad-later : badInstant (getD s i (pos 0)) ≡ false → firstBad (drop i s) ≡ suc (firstBad (drop (i + 1) s))
-    bad-later h = at-place ∙ ap (λ t. cond t 0 (suc (firstBad (drop (suc i) s)))) h ∙ ap (λ j. suc (firstBad (drop j s))) (sym (add-one i))
 
 -- the place is at most the length, and where it is the length no instant is bad
 pub bad-le : (s : List ℤ) → firstBad s ≤ length s
@@ -76,6 +63,18 @@ bad-exactly (instant ∷ s) (suc p) f =
     let h = f .in-list in
     let rest : FirstBadAt s p = record { in-list = omega arith; bad = f .bad; first = λ k l. f .first (suc k) (omega arith) } in
     rw (f .first 0 (omega arith)) (ap suc (bad-exactly s p rest))
+
+-- the place that the code looks for
+pub bad-place : (s : List ℤ) (p : ℕ) → FirstPlace firstInstant lastInstant true s p → p ≡ firstBad s
+bad-place s p f = go (decLt p (length s))
+  where
+    none : length s ≤ p → Dec (firstBad s < length s) → p ≡ firstBad s
+    none h (yes l) = let b = bad-first s l in no-both _ (b .bad) (f .before (firstBad s) (omega (arith, f .within)))
+    none h (no l) = omega (arith, f .within, bad-le s)
+
+    go : Dec (p < length s) → p ≡ firstBad s
+    go (yes l) = sym (bad-exactly s p (record { in-list = l; bad = f .there l; first = f .before }))
+    go (no l) = none (omega arith) (decLt (firstBad s) (length s))
 
 -- what the tests of the index decide
 module _ (instants days : List ℤ) where

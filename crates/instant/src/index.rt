@@ -66,14 +66,7 @@ fn falls_to_last(before: i64, instants: &[i64]) -> bool
 pub fn first_bad(instants: &[i64]) -> usize
     ensures { λ r. ⌜ r ≡ firstBad (now (instants .entry)) ⌝ }
 {
-    let mut place = 0;
-    while place < instants.len() {
-        if numbers::outside(FIRST_INSTANT, LAST_INSTANT, instants[place]) {
-            return place;
-        }
-        place += 1;
-    }
-    place
+    numbers::first_place(FIRST_INSTANT, LAST_INSTANT, true, instants)
 }
 
 // The place of the first instant smaller than the one before it, or the length where there is none.

@@ -1,6 +1,6 @@
 -- Tests that are both made, taken apart.
 use mathlib.Core.Path.{_≡_, refl, sym, _∙_}
-use mathlib.Core.Bool.{Bool, true, false, _&&_, _||_, true≢false}
+use mathlib.Core.Bool.{Bool, true, false, not, _&&_, _||_, Bool·beq, true≢false}
 
 -- a test has one answer
 pub no-both : {G : Type 0} (t : Bool) → t ≡ true → t ≡ false → G
@@ -19,3 +19,16 @@ and-left false b h = h
 pub and-right : (a b : Bool) → a && b ≡ true → b ≡ true
 and-right true b h = h
 and-right false b h = no-both false h refl
+
+-- whether two are the same
+pub beq-true : (a b : Bool) → Bool·beq a b ≡ true → a ≡ b
+beq-true true true h = refl
+beq-true false false h = refl
+beq-true true false h = no-both false h refl
+beq-true false true h = no-both false h refl
+
+pub beq-false : (a b : Bool) → Bool·beq a b ≡ false → a ≡ not b
+beq-false true true h = no-both true refl h
+beq-false false false h = no-both true refl h
+beq-false true false h = refl
+beq-false false true h = refl

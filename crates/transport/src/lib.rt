@@ -119,7 +119,8 @@ pub fn follow_all(clock: Clock, values: &[i64]) -> Batch
     let count = values.len();
     match clock {
         Clock::Nothing => {
-            let first = steps::first_taken(values);
+            // The first value that is taken where nothing has been heard.
+            let first = numbers::first_place(0, LAST_VALUE, false, values);
             if first == count {
                 return Batch {
                     clock: Clock::Nothing,

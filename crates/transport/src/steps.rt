@@ -9,7 +9,7 @@ ghost use lib.IntN.{pos, _-ℤ_};
 ghost use lib.ListN.{length};
 ghost use Rattle.numbers.specs.Range.{outside};
 ghost use Rattle.transport.specs.Wraps.{wrap, half, lastPosition, leadTo};
-ghost use Rattle.transport.specs.Batches.{goingOn, FirstTaken};
+ghost use Rattle.transport.specs.Batches.{goingOn};
 ghost use Rattle.transport.specs.declared.Clock.the-variants.{At};
 
 // How many values the clock has, and half of that.
@@ -43,20 +43,6 @@ pub fn lands(ahead: u64) -> bool
         return false;
     }
     true
-}
-
-// The place of the first value that is taken where nothing has been heard, or the length where there is none.
-pub fn first_taken(values: &[i64]) -> usize
-    ensures { λ r. ⌜ FirstTaken (now (values .entry)) r ⌝ }
-{
-    let mut place = 0;
-    while place < values.len() {
-        if !numbers::outside(0, LAST_VALUE, values[place]) {
-            return place;
-        }
-        place += 1;
-    }
-    place
 }
 
 // The batch from a position on. The last value is kept beside the position, so that a step need not wait for the one before it.

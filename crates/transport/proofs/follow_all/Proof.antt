@@ -22,14 +22,14 @@ use Rattle.transport.proofs.follow_all.Tie as tie
 enum-told : tie.Need-enum-told
 enum-told c = search needs
 
-first-taken-requires : tie.Need-first-taken-requires
-first-taken-requires c κs = search needs
+first-place-requires : tie.Need-first-place-requires
+first-place-requires c κs = search needs
 
 returns : tie.Need-returns
 returns c =
     let s = c .before .before .before .before .args in
     let values = s .values .now in
-    let t = c .before .first-taken in
+    let t = c .before .first-place in
     let whole : t .result ≡ length values = omega arith in
     ap (soFar Nothing) (sym whole) ∙ sym (at-end values (t .result) Nothing (t .result) (omega arith)) ∙ nothing-heard values (t .result) (t .ensures .within) (t .ensures .before)
     ∙ from-start Nothing values ∙ ap (λ clock. followAllAnswer clock values) (sym (c .before .before .enum-told .given .1))
@@ -42,10 +42,10 @@ shared-slice-copy-out-run c = search needs
 
 -- the value that is taken
 there :
-    (c : tie.After-run-arg) → let t = c .before .before .first-taken in
+    (c : tie.After-run-arg) → let t = c .before .before .first-place in
     Within 0 (natAbs lastValue) (getD (c .before .before .before .before .before .args .values .now) (t .result) (pos 0))
 there c =
-    let t = c .before .before .first-taken in
+    let t = c .before .before .first-place in
     let l : t .result < length (c .before .before .before .before .before .args .values .now) = omega (arith, t .ensures .within) in
     natural-within 0 lastValue _ (t .ensures .there l)
 
@@ -57,7 +57,7 @@ add-run c = search needs
 
 run-requires : tie.Need-run-requires
 run-requires c κs =
-    let t = c .before .before .first-taken in
+    let t = c .before .before .first-place in
     let values = c .before .before .before .before .before .args .values .now in
     let f : SFits w64 (getD values (t .result) (pos 0)) = search needs in
     (omega (arith, read-high f (there c)), (omega arith, omega arith))
@@ -92,7 +92,7 @@ returns-3 : tie.Need-returns-3
 returns-3 c =
     let s = c .before .before .before .before .before .before .args in
     let values = s .values .now in
-    let t = c .before .before .before .first-taken in
+    let t = c .before .before .before .first-place in
     let i = t .result in
     let heard = getD values i (pos 0) in
     let f : SFits w64 heard = search needs in
@@ -116,7 +116,7 @@ follow-all-spec =
     tie.close
     (tie.spec
     enum-told
-    first-taken-requires
+    first-place-requires
     returns
     mul-run
     shared-slice-copy-out-run
