@@ -7,9 +7,10 @@ use native.Mathlib.Omega.{arith}
 use borrow.Author.Tests.{eqb-false, ne-eqb, lt-ltb, le-ltb}
 use lib.Bits.{bitOr, or-lt, or-add-and, and-le-l, and-le-r}
 use lib.Dec.{eqb, ltb}
-use lib.IntN.{pos}
+use lib.IntN.{pos, natAbs}
 use Rattle.refusal.specs.Outcome.{Outcome, value, refused}
 use Rattle.numbers.proofs.Bools.{no-both}
+use Rattle.labels.specs.Webvtt.{lastPosition}
 use Rattle.labels.specs.Timestamps.{isTimestamp, positionOf, positionAnswer}
 use Rattle.labels.specs.Timings.{hasArrow, firstOf, secondOf, isCueLine, is-cue, parts}
 use Rattle.labels.specs.Cues.{cueBetween, cueOf, cueLineAnswer}
@@ -89,7 +90,7 @@ module _ (a b : ℕ) (s : Stamp a) (t : Stamp b) where
 -- ---- two timestamps
 
 -- the numbers of positions and of what stands for none are told apart
-small-not : (p n : ℕ) → p ≤ 359999999999 → 359999999999 < n → eqb p n ≡ false
+small-not : (p n : ℕ) → p ≤ natAbs lastPosition → natAbs lastPosition < n → eqb p n ≡ false
 small-not p n h l = ne-eqb p n (λ e. omega arith)
 
 -- the refusals of two positions, then their order

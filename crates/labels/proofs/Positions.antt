@@ -23,7 +23,7 @@ use Rattle.labels.specs.Digits.{digits}
 use Rattle.labels.specs.Clock.{colon, clockText}
 use Rattle.labels.specs.Words.{word, bytesOf}
 use Rattle.labels.specs.Filled.{filled, Begins}
-use Rattle.labels.specs.PositionPieces.{shortText}
+use Rattle.labels.specs.PositionPieces.{hundredHours, shortText}
 use Rattle.labels.specs.Webvtt.{lastPosition, perHour, perMinute, perSecond, hourDigits, clockOf, positionText, positionLabel}
 use Rattle.labels.proofs.Decimal.{length-digits, drop-digits}
 use Rattle.labels.proofs.Words.{AllLe, drop-le, all-bytes, more-bytes, word-drop}
@@ -34,7 +34,7 @@ use Rattle.labels.proofs.Filled.{filled-begins, filled-over}
 
 -- the last position whose hours have two digits
 abbrev pub lastShort : ℤ
-lastShort = pos 359999999
+lastShort = pos (hundredHours - 1)
 
 module _ {z : ℤ} (f : SFits w64 z) where
   pub out-of-range : outside (pos 0) lastPosition z ≡ true → refused 6 ≡ positionLabel z
@@ -53,17 +53,17 @@ module _ {z : ℤ} (f : SFits w64 z) where
   pub short-in-range : outside (pos 0) lastShort z ≡ false → outside (pos 0) lastPosition z ≡ false
   short-in-range h = wider (pos 0) lastShort (pos 0) lastPosition z refl refl h
 
-  pub short-below : outside (pos 0) lastShort z ≡ false → natAbs (read z) < 360000000
+  pub short-below : outside (pos 0) lastShort z ≡ false → natAbs (read z) < hundredHours
   short-below h = omega (arith, read-high f (natural-within 0 lastShort z h))
 
-  pub long-above : outside (pos 0) lastShort z ≡ true → outside (pos 0) lastPosition z ≡ false → 360000000 ≤ natAbs (read z)
-  long-above h k = subst (λ (y : ℤ). 360000000 ≤ natAbs y) (sym (toZ-ofZ f)) (go (ltb (natAbs z) 360000000) refl)
+  pub long-above : outside (pos 0) lastShort z ≡ true → outside (pos 0) lastPosition z ≡ false → hundredHours ≤ natAbs (read z)
+  long-above h k = subst (λ (y : ℤ). hundredHours ≤ natAbs y) (sym (toZ-ofZ f)) (go (ltb (natAbs z) hundredHours) refl)
     where
-      go : (t : Bool) → ltb (natAbs z) 360000000 ≡ t → 360000000 ≤ natAbs z
-      go false e = ltb-false (natAbs z) 360000000 e
+      go : (t : Bool) → ltb (natAbs z) hundredHours ≡ t → hundredHours ≤ natAbs z
+      go false e = ltb-false (natAbs z) hundredHours e
       go true e =
           let i = natural-within 0 lastPosition z k .is in
-          let l = ltb-true (natAbs z) 360000000 e in
+          let l = ltb-true (natAbs z) hundredHours e in
           no-both (outside (pos 0) lastShort z) h (ap (outside (pos 0) lastShort) i ∙ inside-pos 0 (natAbs lastShort) (natAbs z) (omega arith) (omega arith))
 
 -- ---- the clock
@@ -78,12 +78,12 @@ clock-is n =
     λ i. clockText 3 (m i) (s i) (k i)
 
 -- the label below 100 hours, by its minutes and what is beyond them
-short-hours : (n : ℕ) → n < 360000000 → hourDigits (n / perHour) ≡ 2
+short-hours : (n : ℕ) → n < hundredHours → hourDigits (n / perHour) ≡ 2
 short-hours n h =
     let below : n / perHour < 100 = omega arith in
     ap (λ t. cond t 2 (cond (ltb (n / perHour) 1000) 3 (cond (ltb (n / perHour) 10000) 4 5))) (lt-ltb (n / perHour) 100 below)
 
-pub short-text : (n : ℕ) → n < 360000000 → shortText (n / 60000) (n % 60000) ≡ positionText n
+pub short-text : (n : ℕ) → n < hundredHours → shortText (n / 60000) (n % 60000) ≡ positionText n
 short-text n h =
     let hours : n / 60000 / 60 ≡ n / perHour = div-div-eq-div-mul n 60000 60 in
     let minute : n / 60000 % 60 ≡ n % perHour / perMinute = omega arith in
@@ -111,7 +111,7 @@ two-to-five h =
 pub length-position : (n : ℕ) → length (positionText n) ≡ hourDigits (n / perHour) + 10
 length-position n = length-append (digits (n / perHour) (hourDigits (n / perHour))) (colon ∷ clockOf n) ∙ ap (λ l. l + 10) (length-digits (n / perHour) (hourDigits (n / perHour)))
 
-pub short-length : (n : ℕ) → n < 360000000 → length (positionText n) ≡ 12
+pub short-length : (n : ℕ) → n < hundredHours → length (positionText n) ≡ 12
 short-length n h = length-position n ∙ ap (λ d. d + 10) (short-hours n h)
 
 five-digits : (n : ℕ) → n < 100000 → (48 + n / 10000) ∷ digits (n % 10000) 4 ≡ digits n 5

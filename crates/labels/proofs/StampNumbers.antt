@@ -4,7 +4,7 @@ use mathlib.Core.Path.{_≡_, refl, sym, ap, ap₂, _∙_, subst}
 use mathlib.Core.Bool.{Bool, true, false, cond}
 use mathlib.Core.List.{List}
 use native.Mathlib.Omega.{arith}
-use lib.IntN.{pos}
+use lib.IntN.{pos, natAbs}
 use mir.Syntax.{w64}
 use mir.Val.{toZ}
 use mir.Facts.{toZ-pos}
@@ -25,11 +25,11 @@ no-stamp text never = go (isTimestamp text) refl
     go false e = refl
 
 -- a timestamp up to the limit
-pub is-stamp : (text : List ℕ) → isTimestamp text ≡ true → positionOf text ≤ 359999999999 → positionOf text ≡ stampOf text
+pub is-stamp : (text : List ℕ) → isTimestamp text ≡ true → positionOf text ≤ natAbs lastPosition → positionOf text ≡ stampOf text
 unfolding stampOf
 is-stamp text t h =
     sym (ap (λ t. cond t (cond (outside (pos 0) lastPosition (pos (positionOf text))) beyond (positionOf text)) wrong) t
-    ∙ ap (λ o. cond o beyond (positionOf text)) (inside-pos 0 359999999999 (positionOf text) (omega arith) h))
+    ∙ ap (λ o. cond o beyond (positionOf text)) (inside-pos 0 (natAbs lastPosition) (positionOf text) (omega arith) h))
 
 -- a timestamp's number, from whether it is one and from its position
 pub stamp-same : (a b : List ℕ) → isTimestamp a ≡ isTimestamp b → positionOf a ≡ positionOf b → stampOf a ≡ stampOf b
@@ -40,7 +40,7 @@ stamp-same a b t p = ap₂ (λ t p. cond t (cond (outside (pos 0) lastPosition (
 pub by-stamp :
     {G : Type 0} (text : List ℕ) → (isTimestamp text ≡ false → stampOf text ≡ wrong → G) →
     (isTimestamp text ≡ true → outside (pos 0) lastPosition (pos (positionOf text)) ≡ true → stampOf text ≡ beyond → G) →
-    (isTimestamp text ≡ true → outside (pos 0) lastPosition (pos (positionOf text)) ≡ false → stampOf text ≡ positionOf text → positionOf text ≤ 359999999999 → G) → G
+    (isTimestamp text ≡ true → outside (pos 0) lastPosition (pos (positionOf text)) ≡ false → stampOf text ≡ positionOf text → positionOf text ≤ natAbs lastPosition → G) → G
 unfolding stampOf
 by-stamp {G} text none-there high given = go (isTimestamp text) (outside (pos 0) lastPosition (pos (positionOf text))) refl refl
   where

@@ -15,6 +15,7 @@ use Rattle.labels.specs.Clock.{colon}
 use Rattle.labels.specs.Digits.{digits, number, isDigit, fits}
 use Rattle.labels.specs.Words.{word, bytesOf, partOf}
 use Rattle.labels.specs.Webvtt.{perHour}
+use Rattle.labels.specs.PositionPieces.{hundredHours}
 use Rattle.labels.specs.Timestamps.{isClock, areHours, isTimestamp, hoursValue, positionOf}
 use Rattle.labels.specs.Stamps.{stampOf, allDigits}
 use Rattle.labels.proofs.Words.{bytes, all-bytes, part-length, part-le, part-two, part-four, part-five}
@@ -106,8 +107,8 @@ swap false false c = refl
 -- twelve bytes with some in front of them
 pub record Long (hundreds twelve : List ℕ) : Type 0 where
   pub is-both : isTimestamp (hundreds ++ twelve) ≡ allDigits hundreds && isTimestamp twelve
-  pub position-is : positionOf (hundreds ++ twelve) ≡ number hundreds * 360000000 + positionOf twelve
-  pub below : isTimestamp twelve ≡ true → positionOf twelve < 360000000
+  pub position-is : positionOf (hundreds ++ twelve) ≡ number hundreds * hundredHours + positionOf twelve
+  pub below : isTimestamp twelve ≡ true → positionOf twelve < hundredHours
 
 pub long-parts : (hundreds twelve : List ℕ) → length twelve ≡ 12 → Long hundreds twelve
 long-parts hundreds [] e = absurd (omega arith)

@@ -1,5 +1,5 @@
 -- What the code makes of a timestamp of any length.
-use Prim.Native.Nat.{ℕ, _+_, _-_, _*_, _%_, _≤_, _<_}
+use Prim.Native.Nat.{ℕ, _+_, _-_, _*_, _%_, _≤_, _<_, _^_}
 use mathlib.Core.Path.{_≡_, refl, sym, ap, ap₂, _∙_}
 use mathlib.Core.Bool.{Bool, true, false, cond, _&&_, _||_}
 use mathlib.Core.List.{List, [], _∷_, _++_}
@@ -7,7 +7,7 @@ use native.Mathlib.Numerals.{add-one}
 use native.Mathlib.Omega.{arith}
 use borrow.Author.Tests.{eqb-true, eqb-false, leb-true, ltb-true, ltb-false, lt-ltb, le-ltb}
 use lib.Dec.{eqb, leb, ltb}
-use lib.IntN.{pos}
+use lib.IntN.{pos, natAbs}
 use lib.ListN.{length, getD, take, drop, length-drop, take-append-drop}
 use lib.Seq.{take-suc, take-all, length-take-le}
 use Rattle.numbers.specs.Range.{outside}
@@ -16,6 +16,7 @@ use Rattle.labels.specs.Clock.{clockText}
 use Rattle.labels.specs.Digits.{number, numberFrom, isDigit, fits}
 use Rattle.labels.specs.Words.{partOf}
 use Rattle.labels.specs.Webvtt.{lastPosition}
+use Rattle.labels.specs.PositionPieces.{hundredHours}
 use Rattle.labels.specs.Timestamps.{lastNine, inFront, isClock, areHours, isTimestamp, positionOf}
 use Rattle.labels.specs.Stamps.{wrong, beyond, stampOf, allDigits, oneMore, limitedFrom, leading}
 use Rattle.labels.proofs.Words.{part-length}
@@ -45,11 +46,11 @@ follow n m (b ∷ bs) d f = follow (n * 10 + (b - 48)) (oneMore m b) bs (and-rig
         let s : n * 10 + (b - 48) ≡ m * 10 + b % 16 = omega (arith, q, d) in
         (λ h. s, λ h. omega (arith, s, h))
 
-limited-below : (m : ℕ) (text : List ℕ) → m < 10016 → limitedFrom m text < 10016
+limited-below : (m : ℕ) (text : List ℕ) → m < 2 ^ 14 → limitedFrom m text < 2 ^ 14
 limited-below m [] h = h
 limited-below m (b ∷ bs) h = limited-below (oneMore m b) bs (go (ltb 999 m) refl)
   where
-    go : (t : Bool) → ltb 999 m ≡ t → cond t m (m * 10 + b % 16) < 10016
+    go : (t : Bool) → ltb 999 m ≡ t → cond t m (m * 10 + b % 16) < 2 ^ 14
     go true e = h
     go false e = let l = ltb-false 999 m e in omega arith
 
@@ -138,7 +139,7 @@ module _ (text : List ℕ) (h : 12 ≤ length text) where
   is-both : isTimestamp text ≡ allDigits hundreds && isTimestamp twelve
   is-both = sym (ap isTimestamp whole) ∙ cut .is-both
 
-  position-is : positionOf text ≡ number hundreds * 360000000 + positionOf twelve
+  position-is : positionOf text ≡ number hundreds * hundredHours + positionOf twelve
   position-is = sym (ap positionOf whole) ∙ cut .position-is
 
   -- twelve bytes are never beyond the limit
@@ -172,20 +173,20 @@ module _ (text : List ℕ) (h : 12 ≤ length text) where
       whole-is : isTimestamp text ≡ true
       whole-is = is-both ∙ ap₂ _&&_ (d .0) t
 
-      pub last-below : last < 360000000
+      pub last-below : last < hundredHours
       last-below = omega (arith, l, twelve-is t, cut .below t)
 
       pub many-hours : 999 < front → beyond ≡ stampOf text
       unfolding stampOf
       many-hours m =
           let n = d .1 .1 .1 (omega (arith, m, f, d .1 .0)) in
-          let p : 359999999999 < positionOf text = omega (arith, position-is) in
+          let p : natAbs lastPosition < positionOf text = omega (arith, position-is) in
           sym (ap (λ t. cond t (cond (outside (pos 0) lastPosition (pos (positionOf text))) beyond (positionOf text)) wrong) whole-is
-          ∙ ap₂ (λ a b. cond (a || b) beyond (positionOf text)) (le-ltb (positionOf text) 0 (omega arith)) (lt-ltb 359999999999 (positionOf text) p))
+          ∙ ap₂ (λ a b. cond (a || b) beyond (positionOf text)) (le-ltb (positionOf text) 0 (omega arith)) (lt-ltb (natAbs lastPosition) (positionOf text) p))
 
-      pub all-hours : front ≤ 999 → front * 360000000 + last ≡ stampOf text
+      pub all-hours : front ≤ 999 → front * hundredHours + last ≡ stampOf text
       all-hours m =
           let n = d .1 .1 .0 (omega (arith, m, f, d .1 .0)) in
-          let e : front * 360000000 + last ≡ positionOf text =
-          omega (arith, position-is, ap (λ n. n * 360000000) n, ap (λ n. n * 360000000) (f ∙ d .1 .0), l, twelve-is t) in
+          let e : front * hundredHours + last ≡ positionOf text =
+          omega (arith, position-is, ap (λ n. n * hundredHours) n, ap (λ n. n * hundredHours) (f ∙ d .1 .0), l, twelve-is t) in
           e ∙ is-stamp text whole-is (omega (arith, e, m, last-below))

@@ -15,7 +15,7 @@ ghost use Rattle.labels.specs.Digits.{digits};
 ghost use Rattle.labels.specs.Filled.{filled};
 ghost use Rattle.labels.specs.Words.{bytesOf, partOf};
 ghost use Rattle.labels.specs.Webvtt.{positionText};
-ghost use Rattle.labels.specs.PositionPieces.{shortText, ShortTime};
+ghost use Rattle.labels.specs.PositionPieces.{hundredHours, shortText, ShortTime};
 
 const MS_PER_MINUTE: u64 = 60000;
 
@@ -24,7 +24,7 @@ pub const LENGTH: usize = 12;
 
 // Fills the front of a buffer with the label.
 pub fn put(out: &mut [u8], n: u64)
-    requires { ⌜ (n < 360000000) × (12 ≤ length (now out)) ⌝ }
+    requires { ⌜ (n < hundredHours) × (12 ≤ length (now out)) ⌝ }
     ensures { λ r. ⌜ now (out .exit) ≡ filled 0 (positionText n) (now (out .entry)) ⌝ }
 {
     let minutes = n / MS_PER_MINUTE;

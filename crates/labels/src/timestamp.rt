@@ -36,7 +36,7 @@ pub const MS_PER_SECOND: u32 = 1000;
 pub const SECONDS_PER_MINUTE: u32 = 60;
 
 // What one hundred hours are worth, and how many of them there are at most.
-const MS_PER_HUNDRED_HOURS: u64 = 360000000;
+pub const MS_PER_HUNDRED_HOURS: u64 = 100 * MS_PER_HOUR;
 
 const LAST_HUNDRED: u64 = 999;
 
@@ -136,8 +136,8 @@ fn leading_digits(text: &[u8], count: usize) -> u64
 }
 
 fn one_more(n: u64, byte: u8) -> u64
-    requires { ⌜ n < 10016 ⌝ }
-    ensures { λ r. ⌜ (r ≡ oneMore n byte) × (r < 10016) ⌝ }
+    requires { ⌜ n < 2 ^ 14 ⌝ }
+    ensures { λ r. ⌜ (r ≡ oneMore n byte) × (r < 2 ^ 14) ⌝ }
 {
     if n > LAST_HUNDRED {
         n

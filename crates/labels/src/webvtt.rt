@@ -12,6 +12,7 @@ use crate::short_position;
 use crate::timestamp;
 use crate::timestamp::BEYOND;
 use crate::timestamp::MS_PER_HOUR;
+use crate::timestamp::MS_PER_HUNDRED_HOURS;
 use crate::timestamp::MS_PER_SECOND;
 use crate::timestamp::SECONDS_PER_MINUTE;
 use crate::timestamp::WRONG;
@@ -20,11 +21,13 @@ use refusal::Refusal;
 ghost use mathlib.Core.Path.{_≡_};
 ghost use Prim.Native.Nat.{_+_, _≤_, _<_};
 ghost use mathlib.Core.List.{[], _∷_, _++_};
+ghost use lib.IntN.{natAbs};
 ghost use lib.ListN.{length};
 ghost use Rattle.refusal.specs.Outcome.{value, refused, numberOutcome};
 ghost use Rattle.labels.specs.Written.{writeOutcome, bytesWritten, writtenBuffer};
 ghost use Rattle.labels.specs.Filled.{filled, Begins};
-ghost use Rattle.labels.specs.Webvtt.{hourDigits, clockOf, positionText, positionLabel};
+ghost use Rattle.labels.specs.Webvtt.{lastPosition, hourDigits, clockOf, positionText, positionLabel};
+ghost use Rattle.labels.specs.PositionPieces.{hundredHours};
 ghost use Rattle.labels.specs.Digits.{digits};
 ghost use Rattle.labels.specs.Clock.{colon};
 ghost use Rattle.labels.specs.Timestamps.{positionAnswer};
@@ -45,7 +48,7 @@ pub enum CueAnswer {
 const LAST_POSITION: i64 = 359999999999;
 
 // The last position whose hours have two digits.
-const LAST_SHORT: i64 = 359999999;
+const LAST_SHORT: i64 = MS_PER_HUNDRED_HOURS as i64 - 1;
 
 // The bytes of a line with the arrow, one blank each side of it, and two timestamps of twelve bytes or of nine.
 const USUAL_LINE: usize = 29;
@@ -69,7 +72,7 @@ pub fn write_position(position: i64, out: &mut [u8]) -> WriteAnswer
 
 // Writes the label of n milliseconds, with two digits of hours. 7 for a buffer shorter than it.
 fn write_short(n: u64, out: &mut [u8]) -> WriteAnswer
-    requires { ⌜ n < 360000000 ⌝ }
+    requires { ⌜ n < hundredHours ⌝ }
     ensures answer { λ r. ⌜ writeOutcome r ≡ bytesWritten (value (positionText n)) (now (out .entry)) ⌝ }
     ensures buffer { λ r. ⌜ now (out .exit) ≡ writtenBuffer (value (positionText n)) (now (out .entry)) ⌝ }
 {
@@ -82,7 +85,7 @@ fn write_short(n: u64, out: &mut [u8]) -> WriteAnswer
 
 // The same with more digits of hours.
 fn write_long(n: u64, out: &mut [u8]) -> WriteAnswer
-    requires { ⌜ (360000000 ≤ n) × (n ≤ 359999999999) ⌝ }
+    requires { ⌜ (hundredHours ≤ n) × (n ≤ natAbs lastPosition) ⌝ }
     ensures answer { λ r. ⌜ writeOutcome r ≡ bytesWritten (value (positionText n)) (now (out .entry)) ⌝ }
     ensures buffer { λ r. ⌜ now (out .exit) ≡ writtenBuffer (value (positionText n)) (now (out .entry)) ⌝ }
 {

@@ -1,4 +1,3 @@
--- `first_difference` meets its contract.
 use native.Mathlib.Omega.{arith}
 use lib.IntN.{pos}
 use borrow.Author.Needs.{needs}

@@ -1,4 +1,3 @@
--- `outside_limits` meets its contract.
 use mathlib.Core.Bool.{_||_}
 use mathlib.Core.Path.{ap₂}
 use mir.Facts.{toZ-ofZ}

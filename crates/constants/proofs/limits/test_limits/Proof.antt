@@ -1,4 +1,3 @@
--- `test_limits` meets its contract.
 use mathlib.Core.Bool.{Bool, false, _||_}
 use mathlib.Core.Path.{_≡_, sym, ap₂, _∙_}
 use lib.IntN.{pos, natAbs}

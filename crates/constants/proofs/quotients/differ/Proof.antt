@@ -1,4 +1,3 @@
--- `differ` meets its contract.
 use mathlib.Core.Path.{ap, ap₂, _∙_}
 use borrow.Author.Needs.{needs}
 use lib.Dec.{ltb}

@@ -1,4 +1,3 @@
--- `fewest_periods` meets its contract.
 use Prim.Native.Nat.{ℕ, _-_, _*_, _≤_}
 use mathlib.Core.Path.{sym, subst}
 use native.Mathlib.Nat.{div-le-self}

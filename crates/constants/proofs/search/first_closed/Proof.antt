@@ -1,4 +1,4 @@
--- `first_closed` meets its contract: the fewest periods that close a gap, and the least residue whose gap they close.
+-- The fewest periods that close a gap, and the least residue whose gap they close.
 use mathlib.Core.Path.{sym, subst}
 use native.Mathlib.Nat.{mul-le-mul, pos-of-ne-zero}
 use native.Mathlib.Omega.{arith}

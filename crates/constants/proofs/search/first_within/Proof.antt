@@ -1,4 +1,4 @@
--- `first_within` meets its contract. The loop's invariant: some residue below `high` has a gap within the bound, and none below `low`.
+-- The loop's invariant: some residue below `high` has a gap within the bound, and none below `low`.
 use Prim.Native.Nat.{_+_, _-_, _≤_, _<_}
 use mathlib.Core.Path.{_≡_}
 use native.Mathlib.Omega.{arith}

@@ -1,4 +1,4 @@
--- `least_difference` meets its contract: the least on either side.
+-- The least on either side.
 use Prim.Native.Nat.{ℕ, _-_, _*_, _%_, _^_}
 use mathlib.Core.Bool.{true, false}
 use mathlib.Core.Path.{_≡_, ap, _∙_}

@@ -1,4 +1,4 @@
--- `least_gap` meets its contract: the gaps are those of a line against a staircase.
+-- The gaps are those of a line against a staircase.
 use native.Mathlib.Omega.{arith}
 use Rattle.constants.proofs.Sides.{first-up, line-gaps, stairs-gaps, line-fits, stairs-fits}
 use Rattle.constants.proofs.search.least_gap.Statement.{statement}

@@ -1,4 +1,3 @@
--- `side_of` meets its contract.
 use Prim.Native.Nat.{_+_, _*_, _/_, _^_, _≤_}
 use mathlib.Core.Bool.{cond}
 use mathlib.Core.Logic.{⊎-elim}

@@ -1,4 +1,4 @@
-use Prim.Native.Nat.{_-_, _≤_, _<_}
+use Prim.Native.Nat.{_-_, _≤_, _<_, _^_}
 use mathlib.Core.Path.{_≡_, refl, sym, ap, _∙_}
 use mathlib.Core.Bool.{cond}
 use native.Mathlib.Omega.{arith}
@@ -9,7 +9,7 @@ use Rattle.labels.proofs.timestamp.leading_digits.Statement.{statement}
 use Rattle.labels.proofs.timestamp.leading_digits.Tie as tie
 
 abbrev Inv-loop : tie.InvT-loop
-Inv-loop text count n₀ right₀ i₀ n right i = (i ≤ count) × ((n < 10016) × ((n ≡ limitedFrom 0 (take i text)) × (right ≡ allDigits (take i text))))
+Inv-loop text count n₀ right₀ i₀ n right i = (i ≤ count) × ((n < 2 ^ 14) × ((n ≡ limitedFrom 0 (take i text)) × (right ≡ allDigits (take i text))))
 
 abbrev μ-loop : tie.MeasureT-loop
 μ-loop text count n₀ right₀ i₀ n right i = count - i
