@@ -1,28 +1,27 @@
 -- The theorems of the calendar, over the definition by steps.
-use Prim.Native.Nat.{ℕ, _+_, _-_, _/_, _%_, _^_, _≤_, _<_}
+use Prim.Native.Nat.{ℕ, _+_, _-_, _/_, _^_, _≤_, _<_}
 use mathlib.Core.Path.{_≡_, refl, sym, ap, ap₂, _∙_, subst}
 use mathlib.Core.Logic.{_↔_}
 use mathlib.Core.Bool.{Bool, true, false, cond, not, _&&_}
 use native.Mathlib.Numerals.{add-one}
 use native.Mathlib.Omega.{arith}
 use lib.Bits.{bitOr, bitXor}
-use lib.Dec.{eqb, ltb, lit<}
+use lib.Dec.{ltb}
 use lib.IntN.{ℤ, pos, natAbs, _+ℤ_, +ℤ-assoc}
 use lib.ListN.{getD, take}
 use lib.Signed.{ltZ}
-use borrow.Author.Tests.{ltb-true, lt-ltb, eqb-true, eqb-false, eq-eqb, ne-eqb}
+use borrow.Author.Tests.{ltb-true, lt-ltb, eqb-true, eq-eqb, ne-eqb}
 use Rattle.refusal.specs.Outcome.{value, refused}
 use Rattle.numbers.specs.Floor.{floorRemainder}
-use Rattle.numbers.specs.Range.{outside, since, eqZ}
+use Rattle.numbers.specs.Range.{outside, since}
 use Rattle.refusal.proofs.Outcomes.{clash, passes, same-value}
 use Rattle.numbers.proofs.Integers.{outside-no, add-since, since-add, since-le, lt-add, add-injective}
 use Rattle.numbers.proofs.Between.{natural-within, inside-pos, inside-from}
 use Rattle.numbers.proofs.Bools.{no-both}
-use Rattle.numbers.proofs.Quotients.{remainder-add}
 use Rattle.calendar.specs.declared.Date.{Date}
 use Rattle.calendar.specs.Range.{firstYear, lastYear, firstCount, lastCount}
 use Rattle.calendar.specs.Gregorian.{divides, leapYear, monthLengths, monthLength, daysBefore, dateOf, nextDay, dateAfter, ValidDate, Earlier, by-year, by-month, by-day}
-use Rattle.calendar.specs.Count.{dateOfCount, countOfDate, weekday, documentNumber, sum, dayOfYear}
+use Rattle.calendar.specs.Count.{dateOfCount, countOfDate, sum, dayOfYear}
 use Rattle.calendar.specs.Answers.{daysAnswer, civilAnswer, addDaysAnswer}
 use Rattle.calendar.specs.Closed.{fromYear, toYear, baseYear, cycle, lastDay, leapDay, leapℕ, leaps, start, monthDays, before, Valid, InRange, dayNumber, public}
 use Rattle.calendar.proofs.Leap.{leap-public}
@@ -31,7 +30,6 @@ use Rattle.calendar.proofs.Lengths.{bits-days}
 use Rattle.calendar.proofs.Order.{Precedes, in-year, in-month, in-day, precedes-less, trichotomy}
 use Rattle.calendar.proofs.Steps.{at, found, count-after, at-in-range}
 use Rattle.calendar.proofs.Tests.{valid-answer, accepted-valid, accepted-is}
-use Rattle.calendar.proofs.Weekdays.{remainder-swap, weekday-between, weekday-after}
 use Rattle.calendar.proofs.Dates.{natural, year-day, counted, count-inside, days-inside, added}
 
 -- counts and valid dates correspond one to one
@@ -192,49 +190,6 @@ last-count-is-last-date =
     (found lastDay toYear 12 31
     (record { month-low = omega arith; month-high = omega arith; day-low = omega arith; day-high = omega arith })
     refl)
-
--- the weekday
-pub day-zero-is-thursday : weekday (pos 0) ≡ pos 4
-unfolding weekday
-day-zero-is-thursday = refl
-
-pub weekday-is-in-range : (z : ℤ) → outside (pos 1) (pos 7) (weekday z) ≡ false
-unfolding weekday
-weekday-is-in-range z = let b = weekday-between z in inside-pos 1 7 (natAbs (weekday z)) (b .0) (b .1)
-
--- an answer that is one thing where two numbers are equal and another where they are not
-by-equality : {A : Type 0} → (a b : ℕ) (x y r : A) → (a ≡ b → r ≡ x) → ((a ≡ b → ⊥) → r ≡ y) → r ≡ cond (eqb a b) x y
-by-equality a b x y r same other = go (eqb a b) refl
-  where
-    go : (t : Bool) → eqb a b ≡ t → r ≡ cond t x y
-    go true e = same (eqb-true a b e)
-    go false e = other (eqb-false a b e)
-
--- the next day has the next number, and 1 after 7
-pub weekday-moves-by-one : (z : ℤ) → weekday (z +ℤ pos 1) ≡ cond (eqZ (weekday z) (pos 7)) (pos 1) (weekday z +ℤ pos 1)
-unfolding weekday
-weekday-moves-by-one z =
-    let b = weekday-between z in
-    weekday-after z 1 ∙ by-equality (natAbs (weekday z)) 7 _ _ _ (λ e. ap pos (omega (arith, e))) (λ e. ap pos (omega (arith, b .1, e)))
-
--- modulo 7 the two numbers are the same
-pub weekday-modulo-seven : (z : ℤ) → floorRemainder (weekday z) 7 ≡ documentNumber z
-unfolding weekday
-weekday-modulo-seven z = sym (remainder-add 7 (lit< tt) (z +ℤ pos 3) (pos 1)) ∙ ap (λ z. floorRemainder z 7) (+ℤ-assoc z (pos 3) (pos 1))
-
--- so they differ on Sundays only
-pub only-sunday-changes : (z : ℤ) → weekday z ≡ pos (cond (eqb (documentNumber z) 0) 7 (documentNumber z))
-unfolding weekday
-only-sunday-changes z =
-    let b = weekday-between z in
-    let m = weekday-modulo-seven z in
-    ap pos (by-equality (documentNumber z) 0 _ _ _ (λ e. omega (arith, b .0, b .1, m, e)) (λ e. omega (arith, b .0, b .1, m, e)))
-
--- a weekday moves by the shift modulo 7
-pub weekday-moves-by : (z p : ℤ) → floorRemainder (weekday (z +ℤ p)) 7 ≡ floorRemainder (weekday z +ℤ p) 7
-weekday-moves-by z p =
-    weekday-modulo-seven (z +ℤ p) ∙ remainder-swap z p (pos 4) ∙ ap (λ n. (n + floorRemainder p 7) % 7) (sym (weekday-modulo-seven z))
-    ∙ sym (remainder-add 7 (lit< tt) (weekday z) p)
 
 -- the day of the year: 1 to 366 in a leap year, 1 to 365 in a common one
 year-length : (y : ℕ) → cond (leapYear (baseYear +ℤ pos y)) (pos 366) (pos 365) ≡ pos (365 + leapDay y)

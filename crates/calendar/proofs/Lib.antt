@@ -11,4 +11,5 @@ pub mod Shift
 pub mod March
 pub mod Conversion
 pub mod Laws
+pub mod WeekdayLaws
 pub mod BothWays

@@ -30,6 +30,7 @@ pub mod CueStamps
 pub mod CueCuts
 pub mod CueUsual
 pub mod ReadBack
+pub mod FullHours
 pub mod CueLaws
 pub mod WeekTexts
 pub mod Laws

@@ -17,7 +17,8 @@ use Rattle.calendar.specs.Gregorian.{leapYear, monthLength, dateOf, ValidDate}
 use Rattle.calendar.specs.Count.{weekday, dayOfYear}
 use Rattle.calendar.specs.Answers.{daysAnswer, civilAnswer, weekdayAnswer, leapAnswer, lastDayAnswer, dayOfYearAnswer, addDaysAnswer, ofDate}
 use Rattle.calendar.specs.declared.Date.{Date}
-use Rattle.calendar.proofs.Laws.{weekday-is-in-range, day-of-year-is-in-range}
+use Rattle.calendar.proofs.Laws.{day-of-year-is-in-range}
+use Rattle.calendar.proofs.WeekdayLaws.{weekday-is-in-range}
 use Rattle.week.specs.Week.{weekDate, weekDateOf, sameWeekDate}
 use Rattle.week.specs.Answers.{weekAnswer, firstWeekYear, lastWeekYear, dayWith, lookFrom, lookThrough, weekDaysAnswer}
 use Rattle.week.specs.declared.WeekDate.{WeekDate}

@@ -15,7 +15,7 @@ use Rattle.numbers.proofs.Bools.{no-both}
 use Rattle.calendar.specs.Range.{firstCount, lastCount}
 use Rattle.calendar.specs.Count.{weekday}
 use Rattle.calendar.specs.Answers.{weekdayAnswer}
-use Rattle.calendar.proofs.Laws.{weekday-is-in-range}
+use Rattle.calendar.proofs.WeekdayLaws.{weekday-is-in-range}
 use Rattle.week.specs.declared.WeekDate.{WeekDate}
 use Rattle.week.specs.Week.{weekDate, weekDateOf}
 use Rattle.week.specs.Answers.{weekAnswer, firstWeekYear, lastWeekYear, inRange, weekDaysAnswer}
