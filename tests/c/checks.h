@@ -20,6 +20,12 @@ static inline void same(const char *what, int64_t input, int64_t got, int64_t ri
         fprintf(stderr, "FAILED: %s at %" PRId64 " is %" PRId64 ", not %" PRId64 "\n", what, input, got, right);
 }
 
+/* Whether one of the failures that are shown came since there were that many. */
+static inline int failed_since(long failures_before)
+{
+    return failures != failures_before && failures_before < MOST_SHOWN;
+}
+
 static inline int finish(const char *what)
 {
     printf("%s: %ld checks, %ld failures\n", what, checks, failures);

@@ -208,6 +208,7 @@ static void check_constants(int64_t a, int64_t b, int64_t d, int64_t m, int64_t 
     if (first == end) {
         same("claim where there is none", first, ovenquill_check_bound(a, b, d, m, c, k, t, OVENQUILL_BOUND_MAX, &least),
              OVENQUILL_NO_DIFFERENCE_UP_TO_BOUND);
+        same("no least n where there is none", first, least, -1);
         return;
     }
     same("claim", first, ovenquill_check_bound(a, b, d, m, c, k, t, first, &least), 0);
@@ -481,7 +482,7 @@ static void check_unread_week(const char *label, int64_t refusal)
     int64_t days = 7;
     same("an unread week label", 0, ovenquill_read_week((const uint8_t *)label, strlen(label), &days), refusal);
     same("the days of an unread week label", 0, days, 7);
-    show_failed(before, label, strlen(label));
+    show_failed_text(before, label, strlen(label));
 }
 
 /*

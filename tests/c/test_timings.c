@@ -40,7 +40,7 @@ static void try_text(const void *text, size_t length)
     hold("a reader in its text", input, lent_text, same_text, length);
     if (position >= 0)
         try_writing(position);
-    show_failed(before, text, length);
+    show_failed_text(before, text, length);
 }
 
 static void try_string(const char *text)
@@ -112,7 +112,7 @@ static void know_position(const char *text, int64_t right)
 {
     const long before = failures;
     same("a known timestamp", 0, read_position(text), right);
-    show_failed(before, text, strlen(text));
+    show_failed_text(before, text, strlen(text));
     try_timestamp(text);
 }
 

@@ -67,9 +67,9 @@ static void same_clock(const char *what, int64_t input, ovenquill_clock got, ove
 }
 
 /* Shows the clock that was handed in if there were failures since there were that many before. */
-static void show_failed(long failures_before, ovenquill_clock from)
+static void show_failed_clock(long failures_before, ovenquill_clock from)
 {
-    if (failures != failures_before && failures_before < MOST_SHOWN)
+    if (failed_since(failures_before))
         fprintf(stderr, "  from the clock {%" PRId64 ", %" PRId64 "}\n", from.heard, from.position);
 }
 
@@ -79,7 +79,7 @@ static void know_value(const char *what, ovenquill_clock *clock, int64_t value, 
     const ovenquill_clock from = *clock;
     same(what, value, follow(clock, value), answer);
     same_clock(what, value, *clock, right);
-    show_failed(before, from);
+    show_failed_clock(before, from);
 }
 
 static void know_batch(const char *what, ovenquill_clock *clock, const int64_t *values, size_t count,
@@ -89,7 +89,7 @@ static void know_batch(const char *what, ovenquill_clock *clock, const int64_t *
     const ovenquill_clock from = *clock;
     same(what, (int64_t)count, follow_all(clock, values, count), passed_over);
     same_clock(what, (int64_t)count, *clock, right);
-    show_failed(before, from);
+    show_failed_clock(before, from);
 }
 
 static void know_accepted(const char *what, ovenquill_clock *clock, int64_t value, int64_t milliseconds,
@@ -112,7 +112,7 @@ static void try_value(ovenquill_clock from, int64_t value)
     int64_t right[2] = {from.heard, from.position};
     same("ovenquill_follow", value, follow(&clock, value), plain_follow(right, value));
     same_clock("the clock of ovenquill_follow", value, clock, clock_of(right[0], right[1]));
-    show_failed(before, from);
+    show_failed_clock(before, from);
 }
 
 /* A batch, and its values one by one. */
@@ -130,7 +130,7 @@ static void try_batch(ovenquill_clock from, const int64_t *values, size_t count)
         refused += follow(&one_by_one, values[i]) == REFUSED;
     same("refused one by one", input, refused, passed_over);
     same_clock("the clock one by one", input, one_by_one, clock_of(right[0], right[1]));
-    show_failed(before, from);
+    show_failed_clock(before, from);
 }
 
 /* Examples and single values */

@@ -41,14 +41,21 @@ static void check_label(int64_t days, int has_label)
     same("read week", days, again, has_label ? days : INT64_MIN);
 }
 
+static void check_day(int64_t days)
+{
+    int64_t right[3] = {0, 0, 0};
+    same("plain week from days", days, plain_week_from_days(days, right), 0);
+    check_week_date(days, right);
+    check_label(days, right[0] >= PAPER_FIRST_LABEL_YEAR);
+}
+
+/* Every day by the step, and the last one in any case. */
 static void check_days(int64_t step)
 {
-    int64_t days, right[3] = {0, 0, 0};
-    for (days = OVENQUILL_FIRST_COUNT; days <= OVENQUILL_LAST_COUNT; days += step) {
-        same("plain week from days", days, plain_week_from_days(days, right), 0);
-        check_week_date(days, right);
-        check_label(days, right[0] >= PAPER_FIRST_LABEL_YEAR);
-    }
+    int64_t days;
+    for (days = OVENQUILL_FIRST_COUNT; days < OVENQUILL_LAST_COUNT; days += step)
+        check_day(days);
+    check_day(OVENQUILL_LAST_COUNT);
 }
 
 /* New Year */
@@ -197,7 +204,7 @@ static void try_read(const void *label, size_t length)
     SAME_WITH_PLACE(int64_t, (int64_t)length, ovenquill_read_week(lent_label, length, lent),
                     plain_read_week(same_label, length, right));
     hold("ovenquill_read_week in its label", (int64_t)length, lent_label, same_label, length);
-    show_failed(before, label, length);
+    show_failed_text(before, label, length);
 }
 
 /* Labels that are right, of days in the range and after it. */

@@ -8,12 +8,12 @@
 #include "ovenquill.h"
 
 /* Shows a text if there were failures since there were that many before: its first bytes, as numbers where they do not print. */
-static inline void show_failed(long failures_before, const void *text, size_t length)
+static inline void show_failed_text(long failures_before, const void *text, size_t length)
 {
     const unsigned char *bytes = (const unsigned char *)text;
     const size_t most = 60;
     size_t i;
-    if (failures == failures_before || failures_before >= MOST_SHOWN)
+    if (!failed_since(failures_before))
         return;
     fprintf(stderr, "  the text, of %lu bytes: \"", (unsigned long)length);
     for (i = 0; i < length && i < most; i++)
@@ -37,7 +37,7 @@ static inline void check_line(const char *line, int64_t answer, int64_t start, i
     same("a known line", 0, ovenquill_read_cue((const uint8_t *)line, strlen(line), &cue), answer);
     same("the start of a known line", 0, cue.start, answer == 0 ? start : -1);
     same("the end of a known line", 0, cue.end, answer == 0 ? end : -2);
-    show_failed(before, line, strlen(line));
+    show_failed_text(before, line, strlen(line));
 }
 
 static inline void check_cue(const char *line, int64_t start, int64_t end)
