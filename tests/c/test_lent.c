@@ -158,6 +158,17 @@ static void check_edges(void)
     }
 }
 
+/* A date shifted to the calendar's first and last day, and to the days beside these. */
+static void try_sums_at_the_ends(int64_t year, int64_t month, int64_t day)
+{
+    int64_t count = 0, beside;
+    plain_days_from_civil(year, month, day, &count);
+    for (beside = -1; beside <= 1; beside++) {
+        try_date(year, month, day, OVENQUILL_FIRST_COUNT - count + beside);
+        try_date(year, month, day, OVENQUILL_LAST_COUNT - count + beside);
+    }
+}
+
 static void check_random(int rounds)
 {
     while (rounds-- > 0) {
@@ -167,6 +178,7 @@ static void check_random(int rounds)
                                       random_within(-1, 60), random_within(-1, PAPER_SECOND)};
         try_date(year, month, random_within(-1, 33), random_within(-width, width));
         try_date(year, month, random_within(1, 28), random_within(-width, width));
+        try_sums_at_the_ends(year, month, random_within(1, 28));
         try_fields(date_time);
         try_count(random_within(-width, width));
         try_instant(random_instant());
@@ -189,15 +201,16 @@ static void try_writers_with(size_t length)
         try_writers(random_within(0, OVENQUILL_LAST_POSITION >> i), length);
 }
 
-/* Every length up to SHORT bytes, and long ones: powers of two and, as far above one, the length of a label. */
+/* Every length up to SHORT bytes, for writers MEDIUM, and long ones: powers of two and, as far above one, the length of a label. */
 #define SHORT 40
+#define MEDIUM 300
 #define LONGEST (65536 + LABEL)
 static const size_t long_lengths[] = {SHORT + 1, 64, 255, 256, 256 + LABEL, 4096, 65536, LONGEST};
 
 static void check_writers(void)
 {
     size_t i, length;
-    for (length = 0; length <= SHORT; length++)
+    for (length = 0; length <= MEDIUM; length++)
         try_writers_with(length);
     for (i = 0; i < COUNT(long_lengths); i++)
         try_writers_with(long_lengths[i]);
@@ -517,12 +530,56 @@ static void check_long_lists(int rounds)
     }
 }
 
+/* Unequal lengths that multiples of 2^16 and of 2^17 lie apart, either list the longer one, and one beside each. */
+static void check_lengths_far_apart(void)
+{
+    static const size_t apart[] = {65536, 131072, 196608, 262144};
+    static const size_t shorter[] = {0, 1, SHORT_LIST};
+    static int64_t instants[262144 + SHORT_LIST];
+    size_t i, j;
+    fill(instants, COUNT(instants), rises[0]);
+    for (i = 0; i < COUNT(apart); i++)
+        for (j = 0; j < COUNT(shorter); j++) {
+            const size_t longer = shorter[j] + apart[i];
+            same("days far too many", (int64_t)longer, try_index(instants, shorter[j], longer), OVENQUILL_UNEQUAL_LENGTHS);
+            same("days one fewer", (int64_t)longer, try_index(instants, shorter[j], longer - 1), OVENQUILL_UNEQUAL_LENGTHS);
+            same("days far too few", (int64_t)longer, try_index(instants, longer, shorter[j]), OVENQUILL_UNEQUAL_LENGTHS);
+        }
+}
+
+/* Long lists with two bad instants, two falls, or one of each, at places behind the first 2048: the first is named. */
+static void check_two_far_places(int rounds)
+{
+    static const size_t lengths[] = {2048 + SHORT_LIST, 5000, 65536 + SHORT_LIST};
+    static int64_t instants[65536 + SHORT_LIST];
+    while (rounds-- > 0) {
+        const size_t length = lengths[rounds % 20 == 0 ? 2 : rounds % 2];
+        const size_t first = 2048 + random_place(length - 2048 - 2);
+        const size_t second = rounds % 3 == 0 ? length - 1 : first + 2 + random_place(length - first - 2);
+        const int64_t one_bad = bad[random_place(COUNT(bad))], other_bad = bad[random_place(COUNT(bad))];
+        int64_t kept;
+        fill(instants, length, rises[random_place(COUNT(rises))]);
+        kept = instants[first];
+        instants[second] = other_bad;
+        instants[first] = one_bad;
+        same("two bad instants", (int64_t)first, try_index(instants, length, length), OVENQUILL_OUT_OF_RANGE);
+        instants[first] = kept;
+        let_fall(instants + first - 1, random_place(FALL_FORMS));
+        same("a bad instant behind a fall", (int64_t)first, try_index(instants, length, length), OVENQUILL_OUT_OF_RANGE);
+        instants[second] = instants[second - 1];
+        let_fall(instants + second - 1, random_place(FALL_FORMS));
+        same("two falls", (int64_t)first, try_index(instants, length, length), OVENQUILL_OUT_OF_ORDER);
+        instants[first] = one_bad;
+        same("a fall behind a bad instant", (int64_t)first, try_index(instants, length, length), OVENQUILL_OUT_OF_RANGE);
+    }
+}
+
 /* Lists of random lengths, some with equal neighbours, falls or bad instants at random places. */
 static void check_random_lists(int rounds)
 {
-    static int64_t instants[1 << 10];
+    static int64_t instants[1 << 13];
     while (rounds-- > 0) {
-        const size_t n = 2 + random_place((COUNT(instants) - 1) >> random_within(0, 9));
+        const size_t n = 2 + random_place((COUNT(instants) - 1) >> random_within(0, 12));
         int64_t changes;
         fill(instants, n, rises[random_place(COUNT(rises))]);
         for (changes = random_within(0, 2); changes > 0; changes--) {
@@ -610,6 +667,55 @@ static void check_constants(int rounds)
         try_constants(q, first - 1);
         try_constants(q, first);
         try_constants(q, first + 1);
+    }
+}
+
+/* Constants whose least difference is known, or FAR_END where there is none below it: the search, and the claims beside it. */
+#define FAR_END (INT64_C(1) << 26)
+static void know_difference(struct constants q, int64_t first)
+{
+    const int64_t end = first < FAR_END ? OVENQUILL_END_MAX : FAR_END;
+    same("a far difference", first, ovenquill_first_difference(q.a, q.b, q.d, q.m, q.c, q.k, q.t, end), first);
+    same("none below it", first, ovenquill_first_difference(q.a, q.b, q.d, q.m, q.c, q.k, q.t, first), first);
+    SAME_WITH_PLACE(int64_t, first, ovenquill_check_bound(q.a, q.b, q.d, q.m, q.c, q.k, q.t, first - 1, lent),
+                    first == 0 ? OVENQUILL_CONSTANT_OUT_OF_LIMITS : OVENQUILL_NO_DIFFERENCE_UP_TO_BOUND);
+    if (first == FAR_END)
+        return;
+    SAME_WITH_PLACE(int64_t, first, ovenquill_check_bound(q.a, q.b, q.d, q.m, q.c, q.k, q.t, first, lent), 0);
+    SAME_WITH_PLACE(int64_t, first, ovenquill_check_bound(q.a, q.b, q.d, q.m, q.c, q.k, q.t, first + 1, lent),
+                    (*right = first, OVENQUILL_DIFFERENCE_BELOW_BOUND));
+    SAME_WITH_PLACE(int64_t, first, ovenquill_check_bound(q.a, q.b, q.d, q.m, q.c, q.k, q.t, OVENQUILL_BOUND_MAX, lent),
+                    (*right = first, OVENQUILL_DIFFERENCE_BELOW_BOUND));
+}
+
+/* Constants of every tolerance and shift, with an m so far off that t + 1 quotients are reached near a number. */
+static struct constants random_far_constants(int64_t near)
+{
+    struct constants q;
+    do {
+        int64_t off;
+        q.a = random_within(1, random_within(1, 1023));
+        q.b = random_within(0, random_within(0, 1023));
+        q.d = random_within(1, random_within(1, 1048575));
+        q.k = random_within(0, 47);
+        q.t = random_within(0, 255);
+        off = ((q.t + 1) << q.k) / near;
+        q.m = (q.a << q.k) / q.d + (random_within(0, 1) == 0 ? off : -off);
+        q.c = (q.b << q.k) / q.d;
+    } while (outside(OVENQUILL_M_MIN, OVENQUILL_M_MAX, q.m) || outside(OVENQUILL_C_MIN, OVENQUILL_C_MAX, q.c));
+    return q;
+}
+
+/* Differences that stand beyond 2^20. */
+static void check_far_differences(int rounds)
+{
+    static const struct constants tenth = {1, 0, 10, 6554, 0, 16, 30};
+    know_difference(tenth, 4931589);
+    same("plain_first_difference", 0, plain_first_difference(tenth, FAR_END), 4931589);
+    while (rounds-- > 0) {
+        const int64_t near = random_within(INT64_C(1) << 20, INT64_C(1) << random_within(21, 26));
+        const struct constants q = random_far_constants(near);
+        know_difference(q, plain_first_difference(q, FAR_END));
     }
 }
 
@@ -768,12 +874,15 @@ int main(int argc, char **argv)
     check_many_falls();
     check_bad_instants();
     check_lengths();
+    check_lengths_far_apart();
     check_long_lists(rounds);
+    check_two_far_places(1 + rounds / 20);
     check_random_lists(rounds);
     check_alignments();
     check_limits();
     check_ends();
     check_constants(rounds / 4);
+    check_far_differences(1 + rounds / 200);
     check_null();
     check_unset_places();
     check_unset_weeks();
