@@ -381,6 +381,39 @@ static void check_one_digit(void)
             }
 }
 
+/* Hours of one digit and so many zeros: such a timestamp, and lines that start and end with it, are refused with 6. */
+static void know_zeros_behind(char digit, size_t zeros)
+{
+    static const char line_end[] = " --> 00:02.000", line_start[] = "00:01.000 --> ";
+    char *text = (char *)malloc(zeros + 80), *timestamp = text + strlen(line_start);
+    const long before = failures;
+    memcpy(text, line_start, strlen(line_start));
+    sprintf(timestamp, "%c%0*d:00:00.000", digit, (int)zeros, 0);
+    same("one digit and zeros", (int64_t)zeros, read_position(timestamp), OVENQUILL_POSITION_OUT_OF_RANGE);
+    show_failed_text(before, timestamp, strlen(timestamp));
+    try_string(timestamp);
+    know_refused_cue(text, OVENQUILL_POSITION_OUT_OF_RANGE);
+    strcat(timestamp, line_end);
+    know_refused_cue(timestamp, OVENQUILL_POSITION_OUT_OF_RANGE);
+    /* 13 before 6 */
+    timestamp[1 + zeros + 1] = '6';
+    know_refused_cue(timestamp, OVENQUILL_MALFORMED_TIMING);
+    free(text);
+}
+
+/* One digit in front of zeros of every count from 200 to 600, and of many more. */
+static void check_one_far_digit(void)
+{
+    static const size_t many[] = {1023, 1024, 1025, 4095, 4096, 4097, 10000, 32767, 32768, 65530, 65535, 65536, 65537, 70000};
+    size_t zeros, i;
+    for (zeros = 200; zeros <= 600; zeros++)
+        know_zeros_behind("123456789"[zeros % 9], zeros);
+    for (i = 0; i < COUNT(many); i++) {
+        know_zeros_behind('1', many[i]);
+        know_zeros_behind('9', many[i]);
+    }
+}
+
 /* Up to five blanks on either side of the arrow, each a space or a tab: the bits of a number below its highest one. */
 static void check_blanks(void)
 {
@@ -403,15 +436,21 @@ static void check_blanks(void)
             }
 }
 
-/* Adds that many spaces and tabs: in turn, a tab amid spaces, a space amid tabs, or, by any other pattern, at random. */
-static void add_blanks(struct built *text, size_t count, int pattern)
+/* Puts that many spaces and tabs: in turn, a tab amid spaces, a space amid tabs, or, by any other pattern, at random. */
+static void put_blanks(char *bytes, size_t count, int pattern)
 {
     const size_t odd = (size_t)random_within(0, (int64_t)count - 1);
     size_t i;
     for (i = 0; i < count; i++) {
         const size_t tab = pattern == 0 ? i % 2 : pattern == 1 ? i == odd : pattern == 2 ? i != odd : (size_t)random_within(0, 1);
-        add_bytes(text, &" \t"[tab], 1);
+        bytes[i] = " \t"[tab];
     }
+}
+
+static void add_blanks(struct built *text, size_t count, int pattern)
+{
+    put_blanks(text->bytes + text->length, count, pattern);
+    text->length += count;
 }
 
 /* Up to 100 blanks on either side of the arrow, of every pattern, as they are and with a byte of them damaged. */
@@ -440,6 +479,49 @@ static void check_many_blanks(void)
                 try_built(&behind);
             }
         }
+}
+
+/* A right line with so many blanks before the arrow and behind it is read as it is, and not with one of them damaged. */
+static void know_blanks(size_t before, size_t behind, int pattern)
+{
+    static const char start[] = "00:01.000", arrow[] = "-->", end[] = "00:02.000";
+    char *line = (char *)malloc(sizeof start + before + sizeof arrow + behind + sizeof end), *next = line;
+    char *damaged;
+    memcpy(next, start, strlen(start));
+    next += strlen(start);
+    damaged = next + random_within(0, (int64_t)before - 1);
+    put_blanks(next, before, pattern);
+    next += before;
+    memcpy(next, arrow, strlen(arrow));
+    next += strlen(arrow);
+    if (pattern % 2 == 0)
+        damaged = next + random_within(0, (int64_t)behind - 1);
+    put_blanks(next, behind, pattern);
+    strcpy(next + behind, end);
+    know_cue(line, 1000, 2000);
+    *damaged = "\n\r\v0-_\xa0"[random_within(0, 6)];
+    know_refused_cue(line, OVENQUILL_MALFORMED_TIMING);
+    free(line);
+}
+
+/* From 101 to some thousands of blanks, of every pattern, on one side of the arrow or on both. */
+static void check_thousands_of_blanks(void)
+{
+    static const size_t many[] = {511, 512, 513, 1000, 1023, 1024, 1025, 2047, 2048, 2049, 4095, 4096, 4097, 5000};
+    size_t blanks, i;
+    int pattern;
+    for (pattern = 0; pattern < 6; pattern++) {
+        for (blanks = 101; blanks <= 300; blanks++) {
+            know_blanks(blanks, 1, pattern);
+            know_blanks(1, blanks, pattern);
+            know_blanks(blanks, (size_t)random_within(1, 300), pattern);
+        }
+        for (i = 0; i < COUNT(many); i++) {
+            know_blanks(many[i], 1, pattern);
+            know_blanks(1, many[i], pattern);
+            know_blanks(many[i], many[random_within(0, (int64_t)COUNT(many) - 1)], pattern);
+        }
+    }
 }
 
 /* Right lines whose hours or blanks are up to 100, one of them or all, with blanks, line endings and others before and behind. */
@@ -579,8 +661,10 @@ int main(int argc, char **argv)
     check_lengths();
     check_hours();
     check_one_digit();
+    check_one_far_digit();
     check_blanks();
     check_many_blanks();
+    check_thousands_of_blanks();
     check_around_long_lines();
     check_other_blanks();
     check_pairs();
