@@ -500,6 +500,32 @@ static void check_all_short_lists(void)
     check_short_lists(clock_of(INT64_MAX, LAST), LAST - SHORT * PICTURE, value_of(LAST + 1));
 }
 
+/* So many refused values in a row and then the value of a position: bad ones, or ones of a list of those refused from there. */
+static void know_many_refused(ovenquill_clock from, size_t refused, const int64_t *list, size_t listed, int64_t position)
+{
+    int64_t *values = (int64_t *)malloc((refused + 2) * sizeof *values);
+    ovenquill_clock all = from, with_good = from, with_another = from;
+    size_t i;
+    for (i = 0; i < refused; i++)
+        values[i] = listed == 0 ? bad_value() : list[random_within(0, (int64_t)listed - 1)];
+    values[refused] = value_of(position);
+    values[refused + 1] = -1;
+    know_batch("many refused values", &all, values, refused, (int64_t)refused, from);
+    know_batch("a good value behind many", &with_good, values, refused + 1, (int64_t)refused, clock_of(1, position));
+    know_batch("one behind it", &with_another, values, refused + 2, (int64_t)refused + 1, clock_of(1, position));
+    free(values);
+}
+
+static void check_many_refused(size_t refused)
+{
+    static const int64_t below_0[] = {WRAP - 1, WRAP - HALF, WRAP - PICTURE, -1, WRAP};
+    static const int64_t beyond_last[] = {1, PICTURE, HALF - 1, -1, WRAP};
+    know_many_refused(start, refused, NULL, 0, WRAP - 1);
+    know_many_refused(clock_of(1, WRAP - 1), refused, NULL, 0, WRAP);
+    know_many_refused(clock_of(1, 0), refused, below_0, COUNT(below_0), PICTURE);
+    know_many_refused(clock_of(1, LAST), refused, beyond_last, COUNT(beyond_last), LAST - 1);
+}
+
 /* `heard` is kept, whatever it is, where nothing is accepted, and is 1 where something is. */
 static void check_heard(void)
 {
@@ -594,6 +620,8 @@ int main(int argc, char **argv)
     check_year(0, 331);
     check_year(WRAP - 1, 332);
     check_all_short_lists();
+    check_many_refused(10000);
+    check_many_refused(LONGEST / (size_t)thinned);
     check_heard();
     check_bad_positions();
     check_empty_lists();
