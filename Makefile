@@ -70,13 +70,15 @@ test-install: $(LIB)
 test-readme: $(LIB)
 	tests/test_readme.py
 
-# libstdc++'s calendar is one of the benchmarks' rivals where there is a C++ compiler; the tests compile the benchmarks too.
+# libstdc++'s calendar is one of the benchmarks' rivals where the C++ compiler has it; the tests compile the benchmarks too.
 build/chrono/libovenquill_chrono.a: rust/benches/chrono.cpp
 	mkdir -p build/chrono
 	$(CXX) -O3 -std=c++20 -falign-functions=64 -c $< -o build/chrono/chrono.o
 	ar rcs $@ build/chrono/chrono.o
 
-ifneq ($(shell command -v $(CXX)),)
+HAS_CHRONO := $(if $(filter test test-rust bench,$(MAKECMDGOALS)),$(shell printf '\043include <chrono>\nstd::chrono::sys_days day;\n' \
+  | $(CXX) -std=c++20 -x c++ -fsyntax-only - 2> /dev/null && echo yes))
+ifeq ($(HAS_CHRONO),yes)
 CHRONO := build/chrono/libovenquill_chrono.a
 bench test-rust: export OVENQUILL_CHRONO := $(CURDIR)/build/chrono
 endif
@@ -101,14 +103,17 @@ bench: $(ALIGNED) $(CHRONO) $(LENGTHS)
 	cd rust && OVENQUILL_LIB=../build/aligned OVENQUILL_LENGTHS=../build/lengths \
 	  RUSTFLAGS="$$RUSTFLAGS -C llvm-args=-align-all-functions=6" cargo bench --quiet --target-dir ../build/bench
 
+# A relative PREFIX is one in this folder. One with a blank in it is kept, which $(abspath ..) would not do.
+INSTALLED := $(if $(filter /%,$(firstword $(PREFIX))),,$(CURDIR)/)$(PREFIX)
+
 install: $(LIB)
-	install -d '$(DESTDIR)$(PREFIX)/lib/pkgconfig' '$(DESTDIR)$(PREFIX)/include'
-	install -m 644 $(LIB) '$(DESTDIR)$(PREFIX)/lib/'
-	install -m 644 include/ovenquill.h '$(DESTDIR)$(PREFIX)/include/'
-	printf '%s\n' 'prefix=$(PREFIX)' '' 'Name: ovenquill' \
+	install -d '$(DESTDIR)$(INSTALLED)/lib/pkgconfig' '$(DESTDIR)$(INSTALLED)/include'
+	install -m 644 $(LIB) '$(DESTDIR)$(INSTALLED)/lib/'
+	install -m 644 include/ovenquill.h '$(DESTDIR)$(INSTALLED)/include/'
+	printf '%s\n' 'prefix=$(INSTALLED)' '' 'Name: ovenquill' \
 	  'Description: The Gregorian calendar, week dates, labels of instants, week dates and positions, cue lines, a checker of constants, and a follower of the transport clock, proved right' \
 	  'Version: $(VERSION)' 'Libs: -L$${prefix}/lib -lovenquill' 'Cflags: -I$${prefix}/include' \
-	  > '$(DESTDIR)$(PREFIX)/lib/pkgconfig/ovenquill.pc'
+	  > '$(DESTDIR)$(INSTALLED)/lib/pkgconfig/ovenquill.pc'
 
 clean:
 	rm -rf build target rust/target
