@@ -10,7 +10,8 @@
  * together: nothing tells at run time that they are of different versions.
  *
  * Any numbers and any bytes may be handed in. A call allocates nothing, keeps no state (a transport clock is the caller's),
- * calls no function outside the archive and leaves errno alone: it may be made from any thread and from a signal handler.
+ * calls no function outside the archive, leaves errno alone and needs less than 1 KiB of stack: it may be made from any thread
+ * and from a signal handler.
  *
  * Every call returns 0 or more where it is done, and below 0 where it is refused: the refusal's number negated, which has a
  * macro below. The refusals of a call are listed in the order in which they are looked for; the first whose cause holds is
@@ -60,7 +61,7 @@ extern "C" {
  * that a label's four digits can tell.
  */
 #define OVENQUILL_FIRST_WEEK_YEAR_ -1
-#define OVENQUILL_LAST_WEEK_YEAR_ 9999
+#define OVENQUILL_LAST_WEEK_YEAR_ OVENQUILL_LAST_YEAR_
 #define OVENQUILL_FIRST_LABEL_YEAR_ 0
 #define OVENQUILL_LAST_LABEL_YEAR_ 9999
 #define OVENQUILL_FIRST_WEEK_YEAR (OVENQUILL_FIRST_YEAR - 1)
@@ -513,6 +514,9 @@ int64_t ovenquill_read_cue(const uint8_t *line, size_t length, ovenquill_cue *cu
 /*
  * Constants of a multiply-and-shift. The exact quotient at n is (a*n + b) / d, rounded down; the device's quotient is
  * (m*n + c) >> k. A difference at n means that the two are more than t apart. n is a whole number from 0.
+ *
+ * The n are not tried one by one: the time does not grow with the n that is found. It grows with the digits of a and d, to some
+ * hundreds of short steps, well below a millisecond.
  */
 
 /*
@@ -548,10 +552,10 @@ int64_t ovenquill_check_bound(int64_t a, int64_t b, int64_t d, int64_t m, int64_
  *     ovenquill_follow(&clock, 8589934592)    answers OVENQUILL_CLOCK_OUT_OF_RANGE; the clock is unchanged
  *
  * From one accepted value to the next goes the one step s with -2^32 <= s < 2^32 that leads to the new value modulo 2^33: the
- * shorter way round, and backwards where both are as long. So a stream may jump by less than half a wrap, 13 h 15 min 21.8 s,
- * either way; a longer jump is taken for the shorter one that leads to the same value, and every position from then on is off
- * by a whole number of wraps. No position is below 0: a value that would lead there, as 8589934591 does after a first value of
- * 0, is refused. Where a stream changes its time base, at a discontinuity, begin the clock anew.
+ * shorter way round, and backwards where both are as long. So a stream may jump by less than half a wrap, which is
+ * 13 h 15 min 21.86 s, either way; a longer jump is taken for the shorter one that leads to the same value, and every position
+ * from then on is off by a whole number of wraps. No position is below 0: a value that would lead there, as 8589934591 does after
+ * a first value of 0, is refused. Where a stream changes its time base, at a discontinuity, begin the clock anew.
  *
  * A follower that is restarted knows nothing of earlier wraps: it takes its first value as it is, and counts from there. To go
  * on after a restart, keep both numbers and hand them in again before the stream has moved by half a wrap.
@@ -574,7 +578,8 @@ int64_t ovenquill_follow(ovenquill_clock *clock, int64_t value);
  * Follows a list of values in order, each as ovenquill_follow does, and passes over those that it refuses. Answers how many it
  * passed over; it is never refused. `clock` is then where the last accepted value led to, with `heard` 1; where none was
  * accepted it is unchanged. From a position outside its range every value is passed over, until the clock is begun anew. A list
- * may be split into batches anywhere: the clock after the last batch is the same, and the answers add up.
+ * may be split into batches anywhere: the clock after the last batch is the same, and the answers add up. The time is linear in
+ * `count`.
  */
 int64_t ovenquill_follow_all(ovenquill_clock *clock, const int64_t *values, size_t count);
 
