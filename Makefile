@@ -76,8 +76,11 @@ build/chrono/libovenquill_chrono.a: rust/benches/chrono.cpp
 	$(CXX) -O3 -std=c++20 -falign-functions=64 -c $< -o build/chrono/chrono.o
 	ar rcs $@ build/chrono/chrono.o
 
-HAS_CHRONO := $(if $(filter test test-rust bench,$(MAKECMDGOALS)),$(shell printf '\043include <chrono>\nstd::chrono::sys_days day;\n' \
-  | $(CXX) -std=c++20 -x c++ -fsyntax-only - 2> /dev/null && echo yes))
+# Whether it has, asked only where the rival is wanted. 043 is the number sign, which make would take for a comment.
+ifneq ($(filter test test-rust bench,$(MAKECMDGOALS)),)
+HAS_CHRONO := $(shell printf '\043include <chrono>\nstd::chrono::sys_days day;\n' \
+  | $(CXX) -std=c++20 -x c++ -fsyntax-only - 2> /dev/null && echo yes)
+endif
 ifeq ($(HAS_CHRONO),yes)
 CHRONO := build/chrono/libovenquill_chrono.a
 bench test-rust: export OVENQUILL_CHRONO := $(CURDIR)/build/chrono

@@ -1,8 +1,8 @@
 /*
  * Every call, with what it is lent in heap blocks of exactly that size. Answers, buffers, lists and places are held to plain.h,
  * whole: what a refused call was lent and what stands after a label must be as it was. The texts for the readers of timestamps
- * and cue lines are in test_timings.c, the calls of the transport clock in test_transport.c, and the numbers and labels to read of
- * week dates in test_weeks.c. Compiled as C and as C++.
+ * and cue lines are in test_timings.c, the calls of the transport clock in test_transport.c, the numbers and labels to read of week
+ * dates in test_weeks.c, and lengths beyond 32 bits in test_huge.c. Compiled as C and as C++.
  */
 #include <string.h>
 
