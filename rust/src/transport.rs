@@ -18,7 +18,7 @@ pub const CLOCK_TICKS_PER_MILLISECOND: i64 = 90;
 ///
 /// It counts on, forwards and backwards and past any number of wraps. The first value is taken as it is. From one accepted
 /// value to the next goes the one step `s`, -2^32 <= `s` < 2^32, that leads to the new value modulo 2^33: the shorter way
-/// round, and backwards where both are as long. So a stream may jump by less than half a wrap, 13 h 15 min 21.8 s, either
+/// round, and backwards where both are as long. So a stream may jump by less than half a wrap, 13 h 15 min 21.86 s, either
 /// way; a longer jump is taken for the shorter one that leads to the same value, and every position from then on is off by a
 /// whole number of wraps. No position is below 0: a value that would lead there, as 8589934591 does after a first value of
 /// 0, is refused. Where a stream changes its time base, at a discontinuity, begin with a new clock.
