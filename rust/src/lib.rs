@@ -63,8 +63,8 @@ pub use constants::{check_bound, first_difference, ClaimError, Constants, CLAIM_
 pub use instant::{day_of_instant, index_days, join_instant, split_instant, Fields, IndexError, INSTANTS};
 pub use labels::{
     instant_label, position_label, read_cue, read_instant, read_position, read_week, week_label, write_instant,
-    write_position, write_week, Cue, InstantLabel, PositionLabel, WeekLabel, INSTANT_LABEL_BYTES, POSITIONS,
-    POSITION_LABEL_BYTES, WEEK_LABEL_BYTES, LABEL_YEARS,
+    write_position, write_week, Cue, InstantLabel, PositionLabel, WeekLabel, INSTANT_LABEL_BYTES, LABEL_YEARS,
+    POSITIONS, POSITION_LABEL_BYTES, WEEK_LABEL_BYTES,
 };
 pub use refusal::Refusal;
 pub use transport::{Clock, ClockPosition, CLOCK_POSITIONS, CLOCK_TICKS_PER_MILLISECOND, CLOCK_VALUES};

@@ -5,7 +5,7 @@ mod support;
 
 use ovenquill::{
     days_from_civil, days_from_week, read_week, week_from_days, week_label, weekday, write_week, Date, Refusal,
-    WeekDate, WeekLabel, Weekday, WEEK_LABEL_BYTES, LABEL_YEARS, WEEK_YEARS,
+    WeekDate, WeekLabel, Weekday, LABEL_YEARS, WEEK_LABEL_BYTES, WEEK_YEARS,
 };
 use support::answer::answer;
 use support::answer::Answer::{Refused, Value};
