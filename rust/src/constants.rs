@@ -2,6 +2,7 @@
 
 use crate::raw;
 use crate::refusal::{returned, Refusal};
+use crate::text::pad;
 use core::cmp::Ordering;
 use core::error::Error;
 use core::fmt;
@@ -117,8 +118,10 @@ pub struct ClaimError {
 
 impl fmt::Display for ClaimError {
     fn fmt(&self, f: &mut fmt::Formatter<'_>) -> fmt::Result {
-        self.refusal.fmt(f)?;
-        self.least.map_or(Ok(()), |least| write!(f, ", the least at {least}"))
+        match self.least {
+            Some(least) => pad(f, format_args!("{}, the least at {least}", self.refusal)),
+            None => self.refusal.fmt(f),
+        }
     }
 }
 

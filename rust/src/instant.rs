@@ -3,6 +3,7 @@
 use crate::calendar::DAYS;
 use crate::raw;
 use crate::refusal::{counted, placed, Refusal};
+use crate::text::pad;
 use core::error::Error;
 use core::fmt;
 use core::ops::RangeInclusive;
@@ -140,8 +141,10 @@ pub struct IndexError {
 
 impl fmt::Display for IndexError {
     fn fmt(&self, f: &mut fmt::Formatter<'_>) -> fmt::Result {
-        self.refusal.fmt(f)?;
-        self.place.map_or(Ok(()), |place| write!(f, ", first at place {place}"))
+        match self.place {
+            Some(place) => pad(f, format_args!("{}, first at place {place}", self.refusal)),
+            None => self.refusal.fmt(f),
+        }
     }
 }
 

@@ -2,7 +2,8 @@
 
 use crate::calendar::{MONTHS, YEARS};
 use crate::instant::{DAY, HOUR, MINUTE, SECOND};
-use crate::labels::{INSTANT_LABEL_BYTES, POSITIONS, WEEK_LABEL_BYTES, LABEL_YEARS};
+use crate::labels::{INSTANT_LABEL_BYTES, LABEL_YEARS, POSITIONS, WEEK_LABEL_BYTES};
+use crate::text::pad;
 use crate::transport::{CLOCK_POSITIONS, CLOCK_VALUES};
 use crate::week::WEEK_YEARS;
 use crate::weekday::Weekday;
@@ -24,6 +25,7 @@ macro_rules! refusals {
         /// assert_eq!(refusal, Refusal::MonthOutOfRange);
         /// assert_eq!(refusal.number(), 2);
         /// assert_eq!(refusal.to_string(), "month outside 1..12");
+        /// assert_eq!(format!("{refusal:>21}"), "  month outside 1..12");
         /// ```
         #[derive(Clone, Copy, Debug, PartialEq, Eq, Hash)]
         #[non_exhaustive]
@@ -79,8 +81,10 @@ macro_rules! refusals {
         impl fmt::Display for Refusal {
             fn fmt(&self, f: &mut fmt::Formatter<'_>) -> fmt::Result {
                 match self {
-                    $(Refusal::$name => write!(f, $($words)+),)+
-                    Refusal::Unknown(number) => write!(f, "refusal {number}, which this version does not know"),
+                    $(Refusal::$name => pad(f, format_args!($($words)+)),)+
+                    Refusal::Unknown(number) => {
+                        pad(f, format_args!("refusal {number}, which this version does not know"))
+                    }
                 }
             }
         }
@@ -193,6 +197,7 @@ mod tests {
     extern crate std;
 
     use super::Refusal;
+    use std::format;
     use std::string::ToString;
 
     #[test]
@@ -207,7 +212,8 @@ mod tests {
             assert!(!Refusal::ALL.contains(&refusal));
             assert_eq!(refusal.number(), answer.wrapping_neg());
         }
-        let words = std::format!("refusal {unknown}, which this version does not know");
+        let words = format!("refusal {unknown}, which this version does not know");
         assert_eq!(Refusal::of(-unknown).to_string(), words);
+        assert_eq!(format!("{:>90}", Refusal::of(-unknown)), format!("{words:>90}"));
     }
 }

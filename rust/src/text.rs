@@ -1,4 +1,4 @@
-//! Dates and week dates as text, whose length must be known before it is padded.
+//! Text that is padded as a whole, for which its length must be known before it is written.
 
 use core::fmt::{self, Write};
 use core::str;
@@ -6,16 +6,21 @@ use core::str;
 /// Writes a year of at least four digits, with a minus sign where it is below zero, a dash, and what follows it in a date.
 pub(crate) fn pad_date(f: &mut fmt::Formatter<'_>, year: i64, rest: fmt::Arguments<'_>) -> fmt::Result {
     let sign = if year < 0 { "-" } else { "" };
-    let mut text = Text { bytes: [0; DATE_TEXT_BYTES], length: 0 };
-    write!(text, "{sign}{:04}-{rest}", year.unsigned_abs())?;
-    f.pad(text.as_str())
+    pad(f, format_args!("{sign}{:04}-{rest}", year.unsigned_abs()))
 }
 
-/// The bytes of the longest date as text: three times the longest number, and the marks, of which a week date has three.
-const DATE_TEXT_BYTES: usize = 3 * "-9223372036854775808".len() + 3;
+/// Writes the text of a date, a refusal or an error.
+pub(crate) fn pad(f: &mut fmt::Formatter<'_>, text: fmt::Arguments<'_>) -> fmt::Result {
+    let mut whole = Text { bytes: [0; TEXT_BYTES], length: 0 };
+    whole.write_fmt(text)?;
+    f.pad(whole.as_str())
+}
+
+/// More bytes than the longest text has: the words of a refusal, and then a number that an error hands back.
+const TEXT_BYTES: usize = 256;
 
 struct Text {
-    bytes: [u8; DATE_TEXT_BYTES],
+    bytes: [u8; TEXT_BYTES],
     length: usize,
 }
 

@@ -10,6 +10,7 @@ use ovenquill::{
     IndexError, Refusal, WeekDate,
 };
 use std::error::Error;
+use std::fmt::Display;
 use support::plain::{FIRST_DAY, FIRST_YEAR, LAST_YEAR};
 
 /// Each refusal with document 01's number.
@@ -62,6 +63,33 @@ fn words_of_readme() {
         // A row goes on behind a semicolon with what is handed back.
         assert_eq!(refusal.to_string(), cause.split(';').next().unwrap_or_default());
         assert_eq!(Box::<dyn Error>::from(*refusal).to_string(), refusal.to_string());
+    }
+}
+
+/// Holds that a text which is shown by itself is padded and cut off as a whole.
+fn try_padding(shown: impl Display) {
+    let text = shown.to_string();
+    assert_eq!(format!("{shown:>300}"), format!("{text:>300}"));
+    assert_eq!(format!("{shown:*<300}"), format!("{text:*<300}"));
+    assert_eq!(format!("{shown:^300.5}"), format!("{text:^300.5}"));
+    assert_eq!(format!("{shown:1}"), text);
+}
+
+#[test]
+fn refusals_and_errors_are_padded_as_a_whole() {
+    let mut indexing: IndexError = index_days(&[i64::MAX], &mut [0]).unwrap_err();
+    let mut claim: ClaimError = check_bound(CONSTANTS, 79).unwrap_err();
+    for &refusal in Refusal::ALL {
+        try_padding(refusal);
+        // The longest numbers, so that the longest texts are among these.
+        for place in [None, Some(0), Some(usize::MAX)] {
+            (indexing.refusal, indexing.place) = (refusal, place);
+            try_padding(indexing);
+        }
+        for least in [None, Some(0), Some(i64::MIN)] {
+            (claim.refusal, claim.least) = (refusal, least);
+            try_padding(claim);
+        }
     }
 }
 
