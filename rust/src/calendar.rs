@@ -1,7 +1,7 @@
 //! Days and dates of the proleptic Gregorian calendar.
 
 use crate::raw;
-use crate::refusal::{placed, returned, Refusal};
+use crate::refusal::{decided, placed, returned, Refusal};
 use crate::text::pad_date;
 use core::fmt;
 use core::ops::RangeInclusive;
@@ -139,11 +139,7 @@ pub fn add_days(date: Date, days: i64) -> Result<Date, Refusal> {
 #[inline]
 pub fn is_leap(year: i64) -> Result<bool, Refusal> {
     // SAFETY: the call takes any number.
-    match unsafe { raw::ovenquill_is_leap(year) } {
-        0 => Ok(false),
-        1 => Ok(true),
-        answer => Err(Refusal::of(answer)),
-    }
+    decided(unsafe { raw::ovenquill_is_leap(year) })
 }
 
 /// The last day of a month, which is the month's length.

@@ -1,9 +1,8 @@
 //! Constants that stand for a division: the least input where a multiply-and-shift quotient goes wrong.
 
 use crate::raw;
-use crate::refusal::{returned, Refusal};
+use crate::refusal::{found, placed, Refusal};
 use crate::text::pad;
-use core::cmp::Ordering;
 use core::error::Error;
 use core::fmt;
 use core::ops::RangeInclusive;
@@ -86,12 +85,7 @@ impl Constants {
 pub fn first_difference(constants: Constants, end: i64) -> Result<Option<i64>, Refusal> {
     let Constants { a, b, d, m, c, k, t } = constants;
     // SAFETY: the call takes any numbers.
-    let answer = returned(unsafe { raw::ovenquill_first_difference(a, b, d, m, c, k, t, end) })?;
-    match answer.cmp(&end) {
-        Ordering::Less => Ok(Some(answer)),
-        Ordering::Equal => Ok(None),
-        Ordering::Greater => Err(Refusal::of(answer)),
-    }
+    found(unsafe { raw::ovenquill_first_difference(a, b, d, m, c, k, t, end) }, end)
 }
 
 /// Why a claim was turned down, and the input that speaks against it.
@@ -154,9 +148,6 @@ pub fn check_bound(constants: Constants, bound: i64) -> Result<(), ClaimError> {
     // No input: the call leaves it so where it has none to hand back.
     let mut least = -1;
     // SAFETY: the place is ours to lend.
-    let answer = unsafe { raw::ovenquill_check_bound(a, b, d, m, c, k, t, bound, &mut least) };
-    match answer {
-        0 => Ok(()),
-        _ => Err(ClaimError { refusal: Refusal::of(answer), least: (least >= 0).then_some(least) }),
-    }
+    let checked = placed((), |()| unsafe { raw::ovenquill_check_bound(a, b, d, m, c, k, t, bound, &mut least) });
+    checked.map_err(|refusal| ClaimError { refusal, least: (least >= 0).then_some(least) })
 }

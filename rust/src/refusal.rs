@@ -7,6 +7,7 @@ use crate::text::pad;
 use crate::transport::{CLOCK_POSITIONS, CLOCK_VALUES};
 use crate::week::WEEK_YEARS;
 use crate::weekday::Weekday;
+use core::cmp::Ordering;
 use core::error::Error;
 use core::fmt;
 
@@ -171,6 +172,7 @@ impl Refusal {
 }
 
 /// What a call answered that returns its value.
+#[inline]
 pub(crate) fn returned(answer: i64) -> Result<i64, Refusal> {
     if answer < 0 {
         Err(Refusal::of(answer))
@@ -180,11 +182,40 @@ pub(crate) fn returned(answer: i64) -> Result<i64, Refusal> {
 }
 
 /// What a call answered that returns how much it wrote.
+#[inline]
 pub(crate) fn counted(answer: i64) -> Result<usize, Refusal> {
     usize::try_from(answer).map_err(|_| Refusal::of(answer))
 }
 
+/// What a call answered that returns 0 for no and 1 for yes.
+#[inline]
+pub(crate) fn decided(answer: i64) -> Result<bool, Refusal> {
+    match answer {
+        0 => Ok(false),
+        1 => Ok(true),
+        _ => Err(Refusal::of(answer)),
+    }
+}
+
+/// What a search below an end answered that returns the end where it found nothing.
+#[inline]
+pub(crate) fn found(answer: i64, end: i64) -> Result<Option<i64>, Refusal> {
+    let number = returned(answer)?;
+    match number.cmp(&end) {
+        Ordering::Less => Ok(Some(number)),
+        Ordering::Equal => Ok(None),
+        Ordering::Greater => Err(Refusal::of(answer)),
+    }
+}
+
+/// How much a call passed over that is never refused; an answer below zero is another archive's, and more than any list has.
+#[inline]
+pub(crate) fn passed_over(answer: i64) -> usize {
+    counted(answer).unwrap_or(usize::MAX)
+}
+
 /// What a call wrote to the place that it was lent, if it returned 0. The place's value before the call doesn't matter.
+#[inline]
 pub(crate) fn placed<T>(mut place: T, call: impl FnOnce(&mut T) -> i64) -> Result<T, Refusal> {
     match call(&mut place) {
         0 => Ok(place),
@@ -196,7 +227,7 @@ pub(crate) fn placed<T>(mut place: T, call: impl FnOnce(&mut T) -> i64) -> Resul
 mod tests {
     extern crate std;
 
-    use super::Refusal;
+    use super::{counted, decided, found, passed_over, placed, returned, Refusal};
     use std::format;
     use std::string::ToString;
 
@@ -215,5 +246,55 @@ mod tests {
         let words = format!("refusal {unknown}, which this version does not know");
         assert_eq!(Refusal::of(-unknown).to_string(), words);
         assert_eq!(format!("{:>90}", Refusal::of(-unknown)), format!("{words:>90}"));
+    }
+
+    /// Answers below zero, of refusals and of none.
+    const BELOW_ZERO: [i64; 5] = [i64::MIN, -1000, -17, -4, -1];
+
+    #[test]
+    fn a_returned_value_or_count_is_not_below_zero() {
+        for answer in [0, 1, 2, 1000, i64::MAX] {
+            assert_eq!(returned(answer), Ok(answer));
+            assert_eq!(counted(answer), usize::try_from(answer).map_err(|_| Refusal::of(answer)));
+            assert_eq!(passed_over(answer), usize::try_from(answer).unwrap_or(usize::MAX));
+        }
+        for answer in BELOW_ZERO {
+            assert_eq!(returned(answer), Err(Refusal::of(answer)));
+            assert_eq!(counted(answer), Err(Refusal::of(answer)));
+            assert_eq!(passed_over(answer), usize::MAX, "{answer}");
+        }
+    }
+
+    #[test]
+    fn only_0_and_1_decide() {
+        assert_eq!(decided(0), Ok(false));
+        assert_eq!(decided(1), Ok(true));
+        for answer in BELOW_ZERO.into_iter().chain([2, 3, 256, i64::MAX]) {
+            assert_eq!(decided(answer), Err(Refusal::of(answer)));
+        }
+    }
+
+    #[test]
+    fn nothing_is_found_at_the_end_or_behind_it() {
+        for end in [0, 1, 69, i64::MAX - 1] {
+            for below in [0, 1, 68, end - 1].into_iter().filter(|below| (0..end).contains(below)) {
+                assert_eq!(found(below, end), Ok(Some(below)));
+            }
+            assert_eq!(found(end, end), Ok(None));
+            for answer in BELOW_ZERO.into_iter().chain([end + 1, i64::MAX]) {
+                assert_eq!(found(answer, end), Err(Refusal::of(answer)), "{answer} of {end}");
+            }
+        }
+    }
+
+    #[test]
+    fn a_place_counts_only_where_0_is_returned() {
+        for answer in BELOW_ZERO.into_iter().chain([0, 1, 2, 256, 1 << 32, i64::MAX]) {
+            let answered = placed(5, |place| {
+                *place = 7;
+                answer
+            });
+            assert_eq!(answered, if answer == 0 { Ok(7) } else { Err(Refusal::of(answer)) });
+        }
     }
 }

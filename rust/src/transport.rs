@@ -1,7 +1,7 @@
 //! The 33-bit clock of a transport stream, followed past its wraps.
 
 use crate::raw;
-use crate::refusal::{returned, Refusal};
+use crate::refusal::{passed_over, returned, Refusal};
 use core::ops::RangeInclusive;
 
 /// The values of the clock, in ticks: what 33 bits hold. After the last one comes the first again.
@@ -105,8 +105,7 @@ impl Clock {
         if numbers.heard != 0 {
             *self = Clock::At(numbers.position);
         }
-        // By its contract the call answers at most the length; what no list can have tells of another archive.
-        usize::try_from(skipped).unwrap_or(usize::MAX)
+        passed_over(skipped)
     }
 
     /// The clock as C has it.
