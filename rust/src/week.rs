@@ -1,5 +1,6 @@
 //! ISO 8601 week dates. A week runs from Monday to Sunday and belongs to the year in which its Thursday lies.
 
+use crate::calendar::YEARS;
 use crate::raw;
 use crate::refusal::{placed, Refusal};
 use crate::text::pad_date;
@@ -16,7 +17,7 @@ use core::ops::RangeInclusive;
 /// assert_eq!(days_from_week(first), Ok(*DAYS.start()));
 /// assert_eq!(days_from_week(WeekDate { weekday: 5, ..first }), Err(Refusal::OutOfRange));
 /// ```
-pub const WEEK_YEARS: RangeInclusive<i64> = -1..=9999;
+pub const WEEK_YEARS: RangeInclusive<i64> = *YEARS.start() - 1..=*YEARS.end();
 
 /// An ISO 8601 week date: any three numbers, which the calls accept or refuse.
 ///
@@ -90,11 +91,11 @@ pub fn week_from_days(days: i64) -> Result<WeekDate, Refusal> {
 /// ([`Refusal::OutOfRange`]).
 ///
 /// ```
-/// use ovenquill::{days_from_week, Refusal, WeekDate};
+/// use ovenquill::{days_from_week, Refusal, WeekDate, WEEK_YEARS};
 ///
 /// assert_eq!(days_from_week(WeekDate::new(2023, 19, 3)), Ok(19487));
 /// assert_eq!(days_from_week(WeekDate::new(2021, 53, 1)), Err(Refusal::WeekOutOfRange));
-/// assert_eq!(days_from_week(WeekDate::new(9999, 52, 6)), Err(Refusal::OutOfRange));
+/// assert_eq!(days_from_week(WeekDate::new(*WEEK_YEARS.end(), 52, 6)), Err(Refusal::OutOfRange));
 /// ```
 #[inline]
 pub fn days_from_week(date: WeekDate) -> Result<i64, Refusal> {

@@ -68,8 +68,8 @@ fn rows_of_document_01() {
     ] {
         assert_eq!(weekday(days), Ok(name));
     }
-    assert_eq!(answer(civil_from_days(2932897)), Refused(4));
-    assert_eq!(answer(weekday(2932897)), Refused(4));
+    assert_eq!(answer(civil_from_days(LAST_DAY + 1)), Refused(4));
+    assert_eq!(answer(weekday(LAST_DAY + 1)), Refused(4));
     assert_eq!(answer(days_from_civil(Date::new(1900, 2, 29))), Refused(3));
     assert_eq!(answer(days_from_civil(Date::new(2023, 13, 99))), Refused(2));
     assert_eq!(is_leap(0), Ok(true));

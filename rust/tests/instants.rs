@@ -33,6 +33,7 @@ fn try_fields(fields: Fields) {
 
 #[test]
 fn range_of_document_01() {
+    assert_eq!((FIRST_INSTANT, LAST_INSTANT), (-62167219200000, 253402300799999));
     assert_eq!(INSTANTS, FIRST_INSTANT..=LAST_INSTANT);
 }
 
@@ -54,8 +55,8 @@ fn rows_of_document_01() {
     for (instant, [year, month, day, hour, minute, second, millisecond]) in [
         (1683729000000, [2023, 5, 10, 14, 30, 0, 0]),
         (-1, [1969, 12, 31, 23, 59, 59, 999]),
-        (FIRST_INSTANT, [0, 1, 1, 0, 0, 0, 0]),
-        (LAST_INSTANT, [9999, 12, 31, 23, 59, 59, 999]),
+        (FIRST_INSTANT, [FIRST_YEAR, 1, 1, 0, 0, 0, 0]),
+        (LAST_INSTANT, [LAST_YEAR, 12, 31, 23, 59, 59, 999]),
     ] {
         let fields = Fields { year, month, day, hour, minute, second, millisecond };
         assert_eq!(split_instant(instant), Ok(fields));

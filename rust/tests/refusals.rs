@@ -12,6 +12,7 @@ use ovenquill::{
 use std::error::Error;
 use std::fmt::Display;
 use support::plain::{FIRST_DAY, FIRST_YEAR, LAST_YEAR};
+use support::plain_weeks::FIRST_WEEK_YEAR;
 
 /// Each refusal with document 01's number.
 const TABLE: &[(i64, Refusal)] = &[
@@ -113,7 +114,7 @@ fn each_refusal_is_given() {
                 is_leap(FIRST_YEAR - 1).unwrap_err(),
                 last_day_of_month(LAST_YEAR + 1, 1).unwrap_err(),
                 join_instant(Fields { year: LAST_YEAR + 1, ..NOON }).unwrap_err(),
-                days_from_week(WeekDate::new(-2, 1, 1)).unwrap_err(),
+                days_from_week(WeekDate::new(FIRST_WEEK_YEAR - 1, 1, 1)).unwrap_err(),
                 write_week(FIRST_DAY, &mut []).unwrap_err(),
             ],
         ),
@@ -129,7 +130,7 @@ fn each_refusal_is_given() {
                 index_days(&[i64::MIN], &mut [0]).unwrap_err().into(),
                 write_instant(i64::MAX, &mut []).unwrap_err(),
                 week_from_days(i64::MIN).unwrap_err(),
-                days_from_week(WeekDate::new(-1, 1, 1)).unwrap_err(),
+                days_from_week(WeekDate::new(FIRST_WEEK_YEAR, 1, 1)).unwrap_err(),
                 write_week(i64::MAX, &mut []).unwrap_err(),
                 read_week(b"9999-W52-7").unwrap_err(),
             ],

@@ -55,6 +55,7 @@ fn has_week(year: i64, week: i64) -> bool {
 
 #[test]
 fn ranges_of_change_request_seven() {
+    assert_eq!((FIRST_WEEK_YEAR, LAST_WEEK_YEAR), (-1, 9999));
     assert_eq!(WEEK_YEARS, FIRST_WEEK_YEAR..=LAST_WEEK_YEAR);
     assert_eq!(LABEL_YEARS, FIRST_LABEL_YEAR..=LAST_LABEL_YEAR);
     assert_eq!(WEEK_LABEL_BYTES, plain::WEEK_LABEL_BYTES);
@@ -73,16 +74,16 @@ fn rows_of_change_request_seven() {
         assert_eq!(week_label(days).unwrap().as_bytes(), label);
         assert_eq!(read_week(label), Ok(days));
     }
-    assert_eq!(week_from_days(-719528), Ok(WeekDate::new(-1, 52, 6)));
+    assert_eq!(week_from_days(FIRST_DAY), Ok(WeekDate::new(FIRST_WEEK_YEAR, 52, 6)));
     for (date, wanted) in [
-        (WeekDate::new(-1, 52, 6), Value(-719528)),
-        (WeekDate::new(-1, 52, 5), Refused(4)),
-        (WeekDate::new(-1, 53, 1), Refused(16)),
-        (WeekDate::new(-2, 1, 1), Refused(1)),
-        (WeekDate::new(10000, 1, 1), Refused(1)),
-        (WeekDate::new(9999, 52, 5), Value(LAST_DAY)),
-        (WeekDate::new(9999, 52, 6), Refused(4)),
-        (WeekDate::new(9999, 52, 7), Refused(4)),
+        (WeekDate::new(FIRST_WEEK_YEAR, 52, 6), Value(FIRST_DAY)),
+        (WeekDate::new(FIRST_WEEK_YEAR, 52, 5), Refused(4)),
+        (WeekDate::new(FIRST_WEEK_YEAR, 53, 1), Refused(16)),
+        (WeekDate::new(FIRST_WEEK_YEAR - 1, 1, 1), Refused(1)),
+        (WeekDate::new(LAST_WEEK_YEAR + 1, 1, 1), Refused(1)),
+        (WeekDate::new(LAST_WEEK_YEAR, 52, 5), Value(LAST_DAY)),
+        (WeekDate::new(LAST_WEEK_YEAR, 52, 6), Refused(4)),
+        (WeekDate::new(LAST_WEEK_YEAR, 52, 7), Refused(4)),
     ] {
         assert_eq!(answer(days_from_week(date)), wanted, "{date}");
     }
@@ -194,7 +195,8 @@ fn every_week_and_weekday_of_years_near_a_limit_or_of_53_weeks() {
 #[test]
 fn refusals_in_their_order() {
     // Each part right, wrong by one on either side, wrong by far: 1 before 16 before 4.
-    let years = [i64::MIN, -2, -1, 0, 4, 2020, 2023, 9998, 9999, 10000, 10001, 65536 + 2020, i64::MAX];
+    let near_ends = [FIRST_WEEK_YEAR, LAST_WEEK_YEAR].into_iter().flat_map(|end| end - 2..=end + 2);
+    let years = near_ends.chain([i64::MIN, 4, 2020, 2023, 65536 + 2020, i64::MAX]);
     let weeks = [i64::MIN, -1, 0, 1, 2, 51, 52, 53, 54, 99, 256 + 1, i64::MAX];
     let weekdays = [i64::MIN, -1, 0, 1, 5, 6, 7, 8, 9, 256 + 1, i64::MAX];
     for year in years {
@@ -204,9 +206,14 @@ fn refusals_in_their_order() {
             }
         }
     }
-    for (year, week, weekday, refusal) in
-        [(-2, 0, 0, 1), (10000, 54, 8, 1), (-1, 0, 1, 16), (-1, 1, 0, 16), (9999, 53, 6, 16), (9999, 52, 8, 16)]
-    {
+    for (year, week, weekday, refusal) in [
+        (FIRST_WEEK_YEAR - 1, 0, 0, 1),
+        (LAST_WEEK_YEAR + 1, 54, 8, 1),
+        (FIRST_WEEK_YEAR, 0, 1, 16),
+        (FIRST_WEEK_YEAR, 1, 0, 16),
+        (LAST_WEEK_YEAR, 53, 6, 16),
+        (LAST_WEEK_YEAR, 52, 8, 16),
+    ] {
         let date = WeekDate::new(year, week, weekday);
         assert_eq!(answer(days_from_week(date)), Refused(refusal), "{date}");
     }
@@ -216,9 +223,14 @@ fn refusals_in_their_order() {
 fn numbers_of_every_size() {
     let numbers = support::powers();
     for &number in &numbers {
-        for (year, week, weekday) in
-            [(2023, 19, 3), (2020, 53, 5), (-1, 52, 6), (9999, 52, 5), (9999, 53, 8), (-2, 0, 0)]
-        {
+        for (year, week, weekday) in [
+            (2023, 19, 3),
+            (2020, 53, 5),
+            (FIRST_WEEK_YEAR, 52, 6),
+            (LAST_WEEK_YEAR, 52, 5),
+            (LAST_WEEK_YEAR, 53, 8),
+            (FIRST_WEEK_YEAR - 1, 0, 0),
+        ] {
             try_week(number, week, weekday);
             try_week(year, number, weekday);
             try_week(year, week, number);

@@ -28,8 +28,9 @@ pub const SECOND: i64 = 1000;
 pub const MINUTE: i64 = 60 * SECOND;
 pub const HOUR: i64 = 60 * MINUTE;
 pub const DAY: i64 = 24 * HOUR;
-pub const FIRST_INSTANT: i64 = -62167219200000;
-pub const LAST_INSTANT: i64 = 253402300799999;
+/// The first instant of the first day and the last of the last.
+pub const FIRST_INSTANT: i64 = FIRST_DAY * DAY;
+pub const LAST_INSTANT: i64 = (LAST_DAY + 1) * DAY - 1;
 
 /// The shape of an instant label, with d for a digit.
 const LABEL_SHAPE: &[u8; LABEL_BYTES] = b"dddd-dd-ddTdd:dd:dd.dddZ";

@@ -3,12 +3,13 @@
 //! of those that lie outside the range; a week date is looked for among all days of its week year. Labels go byte by byte.
 
 use super::answer::Answer::{self, Refused, Value};
-use super::plain::{self, Day, FIRST_DAY, FIRST_YEAR, LAST_DAY, WEEKDAYS};
+use super::plain::{self, Day, FIRST_DAY, FIRST_YEAR, LAST_DAY, LAST_YEAR, WEEKDAYS};
 use ovenquill::WeekDate;
 use std::sync::OnceLock;
 
-pub const FIRST_WEEK_YEAR: i64 = -1;
-pub const LAST_WEEK_YEAR: i64 = 9999;
+/// The first day lies in a week of the year before, the last day in one of its own year.
+pub const FIRST_WEEK_YEAR: i64 = FIRST_YEAR - 1;
+pub const LAST_WEEK_YEAR: i64 = LAST_YEAR;
 pub const FIRST_LABEL_YEAR: i64 = 0;
 pub const LAST_LABEL_YEAR: i64 = 9999;
 pub const WEEK_LABEL_BYTES: usize = 10;
