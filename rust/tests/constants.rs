@@ -43,7 +43,7 @@ fn try_around(q: Constants, end: i64, least: Option<i64>) {
     }
 }
 
-/// Constants whose multiplier is the exact ratio's nearest, or one off, for a random ratio and offset.
+/// Constants whose multiplier is the exact ratio's nearest, or one off, for a random ratio and offset, and with any tolerance.
 fn near_exact(random: &mut Random, d_last: i64) -> Constants {
     let d = random.within(LEAST.d, d_last);
     let a = if random.within(0, 1) == 0 { 1 } else { random.of_any_size(LEAST.a, LARGEST.a) };
@@ -60,7 +60,8 @@ fn near_exact(random: &mut Random, d_last: i64) -> Constants {
         1 => random.of_any_size(LEAST.c, LARGEST.c),
         _ => ((b << k) / d + random.within(-1, 1) * m).clamp(LEAST.c, LARGEST.c),
     };
-    constants(a, b, d, m, c, k, random.choose(&[0, 0, 0, 1, 2, LARGEST.t]))
+    let any = random.within(LEAST.t, LARGEST.t);
+    constants(a, b, d, m, c, k, random.choose(&[0, 0, 0, 1, any, any]))
 }
 
 /// Any allowed constants, small numbers as often as large ones.
@@ -109,7 +110,7 @@ fn rows_of_document_01() {
 }
 
 #[test]
-fn rows_of_document_01_scanned() {
+fn references_agree_on_rows_of_document_01() {
     let scanned = |q: Constants| assert_eq!(plain::scan(q, 1000), plain::walk(q, 1000), "{q:?}");
     scanned(constants(1, 0, 10, 26, 0, 8, 0));
     scanned(constants(1, 0, 10, 26, 0, 8, 1));
@@ -191,6 +192,31 @@ fn random_sets_to_far_ends_walked() {
             try_around(q, end, plain::walk(q, end));
         }
     }
+}
+
+#[test]
+fn every_tolerance() {
+    // Tenths whose multiplier is too large or too small, and two rows of document 01; each with the last tolerance to scan with.
+    for (q, last_scanned) in [
+        (constants(1, 0, 10, 26, 0, 8, 0), LARGEST.t),
+        (constants(1, 0, 10, 25, 0, 8, 0), LARGEST.t),
+        (constants(1, 0, 10, 6554, 0, 16, 0), 30),
+        (constants(1, 0, 10, 6553, 0, 16, 0), 30),
+        (constants(1, 0, 10, 104858, 0, 20, 0), 2),
+        (constants(1, 0, 10, 104857, 0, 20, 0), 2),
+        (constants(5, 461, 153, 2141, 197913, 16, 0), 30),
+        (constants(1, 0, 1461, 2939745, 0, 32, 0), 0),
+    ] {
+        for t in LEAST.t..=LARGEST.t {
+            let q = Constants { t, ..q };
+            let least = plain::walk(q, LAST_END);
+            if t <= last_scanned {
+                assert_eq!(plain::scan_by_steps(q, LAST_END), least, "{q:?}");
+            }
+            try_around(q, LAST_END, least);
+        }
+    }
+    assert_eq!(first_difference(constants(1, 0, 10, 6554, 0, 16, 30), LAST_END), Ok(Some(4931589)));
 }
 
 #[test]
