@@ -400,6 +400,48 @@ fn indexes_with_several_bad_instants() {
     assert_eq!(days, [BEFORE; 3]);
 }
 
+/// Pairs of places of a long list, the first one 1 or more and before the second: beside powers of two, and random ones.
+fn two_places(random: &mut Random, length: usize) -> Vec<(usize, usize)> {
+    let beside_powers = (0..20).flat_map(|power| (1usize << power) - 1..=(1 << power) + 1);
+    let random_places = (0..10).map(|_| random.within(1, length as i64 - 1) as usize);
+    let firsts: Vec<usize> = beside_powers.chain(random_places).chain([length - 2]).collect();
+    let mut pairs = Vec::new();
+    for first in firsts.into_iter().filter(|first| (1..length - 1).contains(first)) {
+        let any = random.within(first as i64 + 1, length as i64 - 1) as usize;
+        pairs.extend([first + 1, any, length - 1].map(|second| (first, second)));
+    }
+    pairs
+}
+
+#[test]
+fn the_first_of_several_is_named_in_long_indexes() {
+    let mut random = Random::new(68);
+    for length in [2050, 4100, 5000, 140_000] {
+        let instants = recording(&mut random, &LARGEST_STEPS, length);
+        let mut changed = instants.clone();
+        for (first, second) in two_places(&mut random, length) {
+            let restore = |changed: &mut Vec<i64>| [first, second].map(|place| changed[place] = instants[place]);
+            changed[first] = instants[first - 1] - 1;
+            changed[second] = FIRST_INSTANT;
+            assert_eq!(try_index(&changed, length), RefusedAt(15, first as i64));
+            changed[second] = random.choose(&BAD_INSTANTS);
+            assert_eq!(try_index(&changed, length), RefusedAt(4, second as i64));
+            changed[first] = random.choose(&BAD_INSTANTS);
+            assert_eq!(try_index(&changed, length), RefusedAt(4, first as i64));
+            restore(&mut changed);
+        }
+        assert_eq!(try_index(&changed, length), Value(length));
+        // From some place on every instant falls or is bad.
+        for place in [2047, 2048, length - 2] {
+            let rising = &instants[..place];
+            let falling: Vec<i64> = (0..(length - place) as i64).map(|by| instants[place - 1] - 1 - by).collect();
+            assert_eq!(try_index(&[rising, &falling].concat(), length), RefusedAt(15, place as i64));
+            let bad = vec![i64::MAX; length - place];
+            assert_eq!(try_index(&[rising, &bad].concat(), length), RefusedAt(4, place as i64));
+        }
+    }
+}
+
 #[test]
 fn a_bad_instant_comes_before_a_fall_anywhere() {
     let mut random = Random::new(65);
@@ -508,6 +550,20 @@ fn indexes_of_unequal_lengths() {
         for days_length in lengths.filter(|&days_length| days_length != length) {
             for instants in [&good, &falling, &bad] {
                 assert_eq!(try_index(instants, days_length), Refused(12));
+            }
+        }
+    }
+}
+
+#[test]
+fn indexes_of_lengths_that_differ_in_their_upper_bits_only() {
+    let upper = [0, 1 << 8, 1 << 15, 1 << 16, 1 << 17, 3 << 16, 1 << 18, 1 << 20];
+    for lower in [0, 5] {
+        for (instants_length, days_length) in upper.into_iter().flat_map(|a| upper.map(|b| (a + lower, b + lower))) {
+            if instants_length != days_length {
+                for instants in [vec![0; instants_length], vec![i64::MAX; instants_length]] {
+                    assert_eq!(try_index(&instants, days_length), Refused(12), "{instants_length} and {days_length}");
+                }
             }
         }
     }
