@@ -480,6 +480,31 @@ fn lists_of_refused_values_and_empty_lists() {
 }
 
 #[test]
+fn long_runs_of_refused_values_and_then_a_good_one() {
+    let mut random = Random::new(69);
+    for count in [100, 255, 256, 4095, 4096, 4097, 10_000, 65_535, 65_536, 1_000_000] {
+        for start in [Clock::Nothing, Clock::At(0), Clock::At(LAST_CLOCK_POSITION / 2), Clock::At(LAST_CLOCK_POSITION)]
+        {
+            let first = match start {
+                Clock::Nothing => random.within(0, WRAP - 1),
+                Clock::At(position) => position,
+            };
+            let refused: Vec<i64> = (0..count).map(|_| some_refused(&mut random, &start)).collect();
+            let values = [&refused[..], &[value_at(first)]].concat();
+            let mut clock = start.clone();
+            assert_eq!((clock.follow_all(&values), clock), (count, Clock::At(first)), "{count} from {start:?}");
+            // Twice in one list, with a step to the second good one that both ends of the range allow.
+            let (inward, refused) = (if first > HALF_WRAP { first - 1 } else { first + 1 }, vec![-1; count]);
+            let values = [&refused[..], &[value_at(first)], &refused, &[value_at(inward)]].concat();
+            let (after, passed_over) = plain::follow_all(&start, &values);
+            assert_eq!((passed_over, &after), (2 * count, &Clock::At(inward)));
+            let mut clock = start.clone();
+            assert_eq!((clock.follow_all(&values), clock), (passed_over, after), "{count} from {start:?}");
+        }
+    }
+}
+
+#[test]
 fn a_list_of_half_a_million_values() {
     let mut random = Random::new(47);
     let values = some_values(&mut random, 500_000);
