@@ -65,7 +65,7 @@ fn returned(expected: Answer<i64>) -> i64 {
     }
 }
 
-/// As often a number from first to last as one of the others.
+/// Two times in three a number from first to last, both of these among them, else one beside them or anywhere.
 fn some(random: &mut Random, first: i64, last: i64) -> i64 {
     let inside = random.within(first, last);
     let choices = [inside, inside, inside, inside, first, last, first - 1, last + 1, random.next() as i64];
@@ -205,7 +205,7 @@ fn the_index_writes_a_place_only_for_a_bad_instant_or_a_fall() {
     assert!(seen.iter().all(|&times| times > 10_000), "accepted, refused by 12, by 4 and by 15: {seen:?}");
 }
 
-/// The label as it is, with a byte changed to one of those, cut short or made long.
+/// The label as it is, with a byte changed to one of those, cut short, or of any length.
 fn some_label(random: &mut Random, label: &[u8], bytes: &[u8]) -> Vec<u8> {
     let mut label = label.to_vec();
     if random.within(0, 1) == 0 {
@@ -216,7 +216,8 @@ fn some_label(random: &mut Random, label: &[u8], bytes: &[u8]) -> Vec<u8> {
         label.pop();
     }
     if random.within(0, 99) == 0 {
-        label.resize(random.choose(&support::LONG), b'0');
+        let lengths: Vec<usize> = support::lengths().collect();
+        label.resize(random.choose(&lengths), b'0');
     }
     label
 }

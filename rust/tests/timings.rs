@@ -382,6 +382,20 @@ fn hours_with_one_digit_that_is_not_zero() {
     }
 }
 
+#[test]
+fn hours_with_one_digit_ahead_of_many_zeros() {
+    let mut random = Random::new(70);
+    let beside_powers = (8..=16).flat_map(|power| (1 << power) - 1..=(1 << power) + 1);
+    for zeros in (201..=600).chain(beside_powers).chain([3_000, 10_000, 70_000]) {
+        for leading in [0, random.within(1, 400) as usize] {
+            let digit = random.choose(b"123456789");
+            let text = [&vec![b'0'; leading], &[digit][..], &vec![b'0'; zeros], b":12:34.567"].concat();
+            assert_eq!(answer(read_position(&text)), Refused(6), "{} and {zeros} zeros behind it", char::from(digit));
+            try_timestamp(&text);
+        }
+    }
+}
+
 /// Every text of so many of these bytes.
 fn every_text(bytes: &[u8], length: usize) -> impl Iterator<Item = Vec<u8>> + '_ {
     let count = bytes.len();
@@ -507,8 +521,9 @@ fn blanks(random: &mut Random, count: usize, pattern: u32) -> Vec<u8> {
 #[test]
 fn long_runs_of_blanks() {
     let mut random = Random::new(37);
-    for count in 1..=100 {
-        for pattern in 0..40 {
+    let longer = (101..=300).chain([511, 512, 513, 1023, 1024, 1025, 4095, 4096, 4097, 10_000]);
+    for (count, patterns) in (1..=100).map(|count| (count, 40)).chain(longer.map(|count| (count, 5))) {
+        for pattern in 0..patterns {
             let other = random.within(1, 100) as usize;
             for (before, behind) in [(count, 1), (1, count), (count, other), (other, count)] {
                 let front = [&b"00:01.000"[..], &blanks(&mut random, before, pattern)].concat();
@@ -607,38 +622,61 @@ fn texts_of_every_length() {
     }
 }
 
-#[test]
-fn long_texts() {
+/// Timestamps with so many of one byte in a row, and lines with as many.
+fn long_texts(length: usize) -> (Vec<String>, Vec<String>) {
+    let [zeros, nines, spaces, tabs, colons, dashes] = ["0", "9", " ", "\t", ":", "-"].map(|byte| byte.repeat(length));
+    let timestamps = vec![
+        format!("{zeros}:59:59.999"),
+        format!("{zeros}99999:59:59.999"),
+        format!("{zeros}100000:00:00.000"),
+        format!("1{zeros}:59:59.999"),
+        format!("{nines}:00:00.000"),
+        format!("{nines}:60:00.000"),
+        format!("{nines}0:00.000"),
+        format!("{colons}00:00.000"),
+        format!("00:00.{zeros}"),
+    ];
+    let lines = vec![
+        format!("00:01.000{spaces}-->{tabs}00:02.000"),
+        format!("00:01.000{spaces}{tabs}-->{tabs}{spaces}00:02.000"),
+        format!("00:01.000{spaces}-->{tabs}00:01.000"),
+        format!("00:01.000{spaces}-->{tabs}"),
+        format!("00:01.000{spaces}{tabs}"),
+        format!("{spaces}00:01.000 --> 00:02.000"),
+        format!("00:01.000 --> 00:02.000{tabs}"),
+        format!("00:01.000 {dashes}> 00:02.000"),
+        format!("{zeros}:00:01.000 --> {zeros}:00:02.000"),
+        format!("{nines}:00:01.000 --> {nines}:00:02.000"),
+    ];
+    (timestamps, lines)
+}
+
+/// How long both readers take for a text, that often.
+fn time_to_read(text: &str, times: usize) -> Duration {
     let began = Instant::now();
-    for length in support::LONG.into_iter().chain([1_000_000]) {
-        let [zeros, nines, spaces, tabs, colons, dashes] =
-            ["0", "9", " ", "\t", ":", "-"].map(|byte| byte.repeat(length));
-        for text in [
-            format!("{zeros}:59:59.999"),
-            format!("{zeros}99999:59:59.999"),
-            format!("{zeros}100000:00:00.000"),
-            format!("{nines}:00:00.000"),
-            format!("{nines}:60:00.000"),
-            format!("{nines}0:00.000"),
-            format!("{colons}00:00.000"),
-            format!("00:00.{zeros}"),
-        ] {
-            try_timestamp(text);
-        }
-        for line in [
-            format!("00:01.000{spaces}-->{tabs}00:02.000"),
-            format!("00:01.000{spaces}-->{tabs}00:01.000"),
-            format!("00:01.000{spaces}-->{tabs}"),
-            format!("00:01.000{spaces}{tabs}"),
-            format!("{spaces}00:01.000 --> 00:02.000"),
-            format!("00:01.000 --> 00:02.000{tabs}"),
-            format!("00:01.000 {dashes}> 00:02.000"),
-            format!("{zeros}:00:01.000 --> {zeros}:00:02.000"),
-            format!("{nines}:00:01.000 --> {nines}:00:02.000"),
-        ] {
-            try_text(line);
-        }
+    for _ in 0..times {
+        // Whether it is read or refused is tried elsewhere.
+        let _ = (read_position(text.as_bytes()), read_cue(text.as_bytes()));
     }
-    // Readers that take time linear in the length are done in seconds; in its square they would take many minutes.
-    assert!(began.elapsed() < Duration::from_secs(60), "long texts take {:?}", began.elapsed());
+    began.elapsed()
+}
+
+/// Holds that a long text takes about as long as 200 short ones; with time in the square of its length it takes 200 times that.
+fn try_time() {
+    let texts = |length| [long_texts(length).0, long_texts(length).1].concat();
+    for (short, long) in texts(500).iter().zip(&texts(100_000)) {
+        // A machine that is busy with other things has several chances.
+        let quick = |_| time_to_read(long, 1) < 50 * time_to_read(short, 200) + Duration::from_millis(1);
+        assert!((0..5).any(quick), "a text of {} bytes takes too long: {}..", long.len(), &long[..20]);
+    }
+}
+
+#[test]
+fn texts_of_any_length() {
+    try_time();
+    for length in support::lengths().chain([1_000_000]) {
+        let (timestamps, lines) = long_texts(length);
+        timestamps.into_iter().for_each(try_timestamp);
+        lines.into_iter().for_each(try_text);
+    }
 }

@@ -28,10 +28,10 @@ pub fn powers() -> Vec<i64> {
 /// Numbers that are no instants: those next to the range and the farthest from it.
 pub const BAD_INSTANTS: [i64; 4] = [plain::FIRST_INSTANT - 1, plain::LAST_INSTANT + 1, i64::MIN, i64::MAX];
 
-/// Lengths of buffers far above a label's, on either side of what a byte holds and, behind the last whole 256 or 65536 bytes,
-/// of an instant label's and a week label's own length.
-pub const LONG: [usize; 9] =
-    [41, 64, 255, 256, 256 + WEEK_LABEL_BYTES, 256 + LABEL_BYTES, 4096, 65536 + WEEK_LABEL_BYTES, 65536 + LABEL_BYTES];
+/// Every length up to 300, and some far above, of which two have a label's length in their last two bytes.
+pub fn lengths() -> impl Iterator<Item = usize> {
+    (0..=300).chain([4096, 65536 + WEEK_LABEL_BYTES, 65536 + LABEL_BYTES])
+}
 
 /// Lends the call the middle of a buffer and answers the middle as it is afterwards. The bytes on either side, 48 or a few
 /// more, must stay as they were.
