@@ -1,4 +1,4 @@
-//! The example that indexes a recording: what it prints, its messages and its exit status.
+//! The example that indexes a recording: what it prints, its messages and its exit status; tests/rust/run tries its main.
 
 #[path = "../examples/index_recording.rs"]
 #[allow(dead_code)] // its main
