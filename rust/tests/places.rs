@@ -112,7 +112,13 @@ fn calls_about_dates() {
         try_place(plain::days_from_civil(date), BEFORE, |days| unsafe {
             raw::ovenquill_days_from_civil(year, month, day, days)
         });
-        let shift = some(&mut random, FIRST_DAY, LAST_DAY);
+        let any = some(&mut random, FIRST_DAY, LAST_DAY);
+        let shift = match plain::days_from_civil(date) {
+            Value(days) => {
+                random.choose(&[any, FIRST_DAY - days, FIRST_DAY - 1 - days, LAST_DAY - days, LAST_DAY + 1 - days])
+            }
+            _ => any,
+        };
         try_place(plain::add_days(date, shift), DATE_BEFORE, |date| unsafe {
             raw::ovenquill_add_days(year, month, day, shift, date)
         });
