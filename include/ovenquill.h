@@ -40,7 +40,7 @@ extern "C" {
 /* The version of this header, in numbers and as a string. */
 #define OVENQUILL_VERSION_MAJOR 0
 #define OVENQUILL_VERSION_MINOR 7
-#define OVENQUILL_VERSION_PATCH 0
+#define OVENQUILL_VERSION_PATCH 1
 #define OVENQUILL_VERSION OVENQUILL_DOTTED_(OVENQUILL_VERSION_MAJOR, OVENQUILL_VERSION_MINOR, OVENQUILL_VERSION_PATCH)
 #define OVENQUILL_DOTTED_(major, minor, patch) OVENQUILL_STRING_(major.minor.patch)
 #define OVENQUILL_STRING_(tokens) #tokens
