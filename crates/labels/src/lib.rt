@@ -20,6 +20,7 @@ mod cue;
 mod date;
 mod digits;
 pub mod iso_week;
+mod long_position;
 pub mod rfc3339;
 mod short_position;
 mod time_fields;

@@ -1,16 +1,20 @@
 // The label of a position below 100 hours, `HH:MM:SS.mmm`, written as four pieces of three bytes: two digits, and a mark or the last
 // digit.
 
+use crate::WriteAnswer;
 use crate::buffer;
 use crate::digits::COLON;
 use crate::digits::POINT;
 use crate::digits::ZERO;
 use crate::time_fields;
 use crate::two_digits;
+use refusal::Refusal;
 ghost use mathlib.Core.Path.{_≡_};
 ghost use Prim.Native.Nat.{_+_, _*_, _≤_, _<_, _^_};
 ghost use mathlib.Core.List.{[], _∷_};
 ghost use lib.ListN.{length};
+ghost use Rattle.refusal.specs.Outcome.{value};
+ghost use Rattle.labels.specs.Written.{writeOutcome, bytesWritten, writtenBuffer};
 ghost use Rattle.labels.specs.Digits.{digits};
 ghost use Rattle.labels.specs.Filled.{filled};
 ghost use Rattle.labels.specs.Words.{bytesOf, partOf};
@@ -20,10 +24,23 @@ ghost use Rattle.labels.specs.PositionPieces.{hundredHours, shortText, S
 const MS_PER_MINUTE: u64 = 60000;
 
 // How many bytes the label has.
-pub const LENGTH: usize = 12;
+const LENGTH: usize = 12;
+
+// Writes the label of n milliseconds. 7 for a buffer shorter than it.
+pub fn write(n: u64, out: &mut [u8]) -> WriteAnswer
+    requires { ⌜ n < hundredHours ⌝ }
+    ensures answer { λ r. ⌜ writeOutcome r ≡ bytesWritten (value (positionText n)) (now (out .entry)) ⌝ }
+    ensures buffer { λ r. ⌜ now (out .exit) ≡ writtenBuffer (value (positionText n)) (now (out .entry)) ⌝ }
+{
+    if out.len() < LENGTH {
+        return WriteAnswer::Refused(Refusal::BufferTooShort);
+    }
+    put(out, n);
+    WriteAnswer::Written(LENGTH)
+}
 
 // Fills the front of a buffer with the label.
-pub fn put(out: &mut [u8], n: u64)
+fn put(out: &mut [u8], n: u64)
     requires { ⌜ (n < hundredHours) × (12 ≤ length (now out)) ⌝ }
     ensures { λ r. ⌜ now (out .exit) ≡ filled 0 (positionText n) (now (out .entry)) ⌝ }
 {

@@ -2,34 +2,19 @@
 // zeros in front of the hours, or without hours, and cue timing lines without settings.
 
 use crate::WriteAnswer;
-use crate::buffer;
-use crate::clock;
 use crate::cue;
-use crate::digits;
-use crate::digits::COLON;
-use crate::digits::ZERO;
+use crate::long_position;
 use crate::short_position;
 use crate::timestamp;
 use crate::timestamp::BEYOND;
-use crate::timestamp::MS_PER_HOUR;
 use crate::timestamp::MS_PER_HUNDRED_HOURS;
-use crate::timestamp::MS_PER_SECOND;
-use crate::timestamp::SECONDS_PER_MINUTE;
 use crate::timestamp::WRONG;
 use refusal::NumberAnswer;
 use refusal::Refusal;
 ghost use mathlib.Core.Path.{_≡_};
-ghost use Prim.Native.Nat.{_+_, _≤_, _<_};
-ghost use mathlib.Core.List.{[], _∷_, _++_};
-ghost use lib.IntN.{natAbs};
-ghost use lib.ListN.{length};
-ghost use Rattle.refusal.specs.Outcome.{value, refused, numberOutcome};
+ghost use Rattle.refusal.specs.Outcome.{refused, numberOutcome};
 ghost use Rattle.labels.specs.Written.{writeOutcome, bytesWritten, writtenBuffer};
-ghost use Rattle.labels.specs.Filled.{filled, Begins};
-ghost use Rattle.labels.specs.Webvtt.{lastPosition, hourDigits, clockOf, positionText, positionLabel};
-ghost use Rattle.labels.specs.PositionPieces.{hundredHours};
-ghost use Rattle.labels.specs.Digits.{digits};
-ghost use Rattle.labels.specs.Clock.{colon};
+ghost use Rattle.labels.specs.Webvtt.{positionLabel};
 ghost use Rattle.labels.specs.Timestamps.{positionAnswer};
 ghost use Rattle.labels.specs.Cues.{cueOutcome, cueLineAnswer};
 ghost use Rattle.labels.specs.Stamps.{Stamp, cueOfStamps};
@@ -62,78 +47,12 @@ pub fn write_position(position: i64, out: &mut [u8]) -> WriteAnswer
 {
     // Most positions have two digits of hours.
     if !numbers::outside(0, LAST_SHORT, position) {
-        return write_short(position as u64, out);
+        return short_position::write(position as u64, out);
     }
     if numbers::outside(0, LAST_POSITION, position) {
         return WriteAnswer::Refused(Refusal::PositionOutOfRange);
     }
-    write_long(position as u64, out)
-}
-
-// Writes the label of n milliseconds, with two digits of hours. 7 for a buffer shorter than it.
-fn write_short(n: u64, out: &mut [u8]) -> WriteAnswer
-    requires { ⌜ n < hundredHours ⌝ }
-    ensures answer { λ r. ⌜ writeOutcome r ≡ bytesWritten (value (positionText n)) (now (out .entry)) ⌝ }
-    ensures buffer { λ r. ⌜ now (out .exit) ≡ writtenBuffer (value (positionText n)) (now (out .entry)) ⌝ }
-{
-    if out.len() < short_position::LENGTH {
-        return WriteAnswer::Refused(Refusal::BufferTooShort);
-    }
-    short_position::put(out, n);
-    WriteAnswer::Written(short_position::LENGTH)
-}
-
-// The same with more digits of hours.
-fn write_long(n: u64, out: &mut [u8]) -> WriteAnswer
-    requires { ⌜ (hundredHours ≤ n) × (n ≤ natAbs lastPosition) ⌝ }
-    ensures answer { λ r. ⌜ writeOutcome r ≡ bytesWritten (value (positionText n)) (now (out .entry)) ⌝ }
-    ensures buffer { λ r. ⌜ now (out .exit) ≡ writtenBuffer (value (positionText n)) (now (out .entry)) ⌝ }
-{
-    let hours = (n / MS_PER_HOUR) as u32;
-    let count = hour_digits(hours);
-    let length = count + 10;
-    if out.len() < length {
-        return WriteAnswer::Refused(Refusal::BufferTooShort);
-    }
-    put_hours(out, hours, count);
-    put_clock(out, count + 1, n);
-    WriteAnswer::Written(length)
-}
-
-// How many digits the hours have, where they are more than two.
-fn hour_digits(hours: u32) -> usize
-    requires { ⌜ 100 ≤ hours ⌝ }
-    ensures { λ r. ⌜ (r ≡ hourDigits hours) × (r ≤ 5) ⌝ }
-{
-    3 + (hours >= 1000) as usize + (hours >= 10000) as usize
-}
-
-// Writes the digits of the hours and a colon: five digits and the colon as one number, of which the digits that are too many are
-// shifted out. Bytes behind them and before byte 8 may change.
-fn put_hours(out: &mut [u8], hours: u32, count: usize)
-    requires { ⌜ ((hours < 100000) × (count ≡ hourDigits hours)) × (8 ≤ length (now out)) ⌝ }
-    ensures { λ r. ⌜ Begins (digits hours count ++ colon ∷ []) 8 (now (out .entry)) (now (out .exit)) ⌝ }
-{
-    let text = COLON as u64 * 0x100_0000_0000
-        + digits::four(hours % 10000) * 256
-        + (ZERO + hours / 10000) as u64;
-    buffer::store(out, 0, text >> (8 * (5 - count)), 7, 0);
-}
-
-// Writes `MM:SS.mmm` of a position from byte `at` of a buffer on.
-fn put_clock(out: &mut [u8], at: usize, n: u64)
-    requires { ⌜ at + 9 ≤ length (now out) ⌝ }
-    ensures { λ r. ⌜ now (out .exit) ≡ filled at (clockOf n) (now (out .entry)) ⌝ }
-{
-    let rest = (n % MS_PER_HOUR) as u32;
-    let seconds = rest / MS_PER_SECOND;
-    clock::put(
-        out,
-        at,
-        seconds / SECONDS_PER_MINUTE,
-        seconds % SECONDS_PER_MINUTE,
-        rest % MS_PER_SECOND,
-    );
+    long_position::write(position as u64, out)
 }
 
 // The position of a timestamp. 13 for a text of a wrong shape, then 6 for a position above the limit.

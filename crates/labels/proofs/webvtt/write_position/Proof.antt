@@ -21,13 +21,13 @@ is-short c =
 outside-requires : tie.Need-outside-requires
 outside-requires c κs = search needs
 
-cast-write-short : tie.Need-cast-write-short
-cast-write-short c =
+cast-write : tie.Need-cast-write
+cast-write c =
     let s = c .before .before .before in
     cast-within (s .fits .position) (natural-within 0 lastShort (s .args .position) (is-short c))
 
-write-short-requires : tie.Need-write-short-requires
-write-short-requires c κs = short-below (c .before .before .before .before .fits .position) (is-short (c .before))
+write-requires : tie.Need-write-requires
+write-requires c κs = short-below (c .before .before .before .before .fits .position) (is-short (c .before))
 
 same-length : tie.Need-same-length
 same-length c = search needs
@@ -36,7 +36,7 @@ returns : tie.Need-returns
 returns c =
     let t = c .before .before .before .before in
     let s = t .before .before .before in
-    renamed (s .args .out .now) (labelled (s .fits .position) (short-in-range (s .fits .position) (is-short t))) (c .before .before .write-short .ensures)
+    renamed (s .args .out .now) (labelled (s .fits .position) (short-in-range (s .fits .position) (is-short t))) (c .before .before .write .ensures)
 
 outside-requires-2 : tie.Need-outside-requires-2
 outside-requires-2 c κs = search needs
@@ -52,13 +52,13 @@ in-the-range c =
     let s = c .before .before .before .before .before in
     answered (pos 0) lastPosition (s .fits .position) (c .before .outside2 .ensures) (c .if2 .left)
 
-cast-write-long : tie.Need-cast-write-long
-cast-write-long c =
+cast-write-2 : tie.Need-cast-write-2
+cast-write-2 c =
     let s = c .before .before .before .before .before in
     cast-within (s .fits .position) (natural-within 0 lastPosition (s .args .position) (in-the-range c))
 
-write-long-requires : tie.Need-write-long-requires
-write-long-requires c κs =
+write-requires-2 : tie.Need-write-requires-2
+write-requires-2 c κs =
     let e = c .before in
     let s = e .before .before .before .before .before in
     let long = answered (pos 0) lastShort (s .fits .position) (e .before .before .before .outside .ensures) (not-false _ (e .before .before .if1 .left)) in
@@ -71,20 +71,20 @@ returns-3 : tie.Need-returns-3
 returns-3 c =
     let e = c .before .before .before .before in
     let s = e .before .before .before .before .before in
-    renamed (s .args .out .now) (labelled (s .fits .position) (in-the-range e)) (c .before .before .write-long .ensures)
+    renamed (s .args .out .now) (labelled (s .fits .position) (in-the-range e)) (c .before .before .write2 .ensures)
 
 pub write-position-spec : {M : Type 1} → statement M
 write-position-spec =
     tie.close
     (tie.spec
     outside-requires
-    cast-write-short
-    write-short-requires
+    cast-write
+    write-requires
     same-length
     returns
     outside-requires-2
     returns-2
-    cast-write-long
-    write-long-requires
+    cast-write-2
+    write-requires-2
     same-length-2
     returns-3)

@@ -2,8 +2,8 @@ use mathlib.Core.Path.{ap, _∙_}
 use Rattle.labels.specs.Filled.{filled}
 use Rattle.labels.proofs.Positions.{clock-is}
 use borrow.Author.Needs.{needs}
-use Rattle.labels.proofs.webvtt.put_clock.Statement.{statement}
-use Rattle.labels.proofs.webvtt.put_clock.Tie as tie
+use Rattle.labels.proofs.long_position.put_clock.Statement.{statement}
+use Rattle.labels.proofs.long_position.put_clock.Tie as tie
 
 cast-rest : tie.Need-cast-rest
 cast-rest c = search needs

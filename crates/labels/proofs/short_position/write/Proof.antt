@@ -3,8 +3,8 @@ use Rattle.labels.specs.Webvtt.{positionText}
 use Rattle.labels.proofs.Writing.{no-room, all-written}
 use Rattle.labels.proofs.Positions.{short-length}
 use borrow.Author.Needs.{needs}
-use Rattle.labels.proofs.webvtt.write_short.Statement.{statement}
-use Rattle.labels.proofs.webvtt.write_short.Tie as tie
+use Rattle.labels.proofs.short_position.write.Statement.{statement}
+use Rattle.labels.proofs.short_position.write.Tie as tie
 
 returns : tie.Need-returns
 returns c =
@@ -23,5 +23,5 @@ returns-2 c =
     let l = short-length (s .args .n) (s .pre) in
     all-written (positionText (s .args .n)) (s .args .out .now) (omega (arith, l, c .before .before .before .before .if1 .left)) (omega (arith, l)) (c .before .before .put .ensures)
 
-pub write-short-spec : {M : Type 1} → statement M
-write-short-spec = tie.close (tie.spec returns put-requires same-length returns-2)
+pub write-spec : {M : Type 1} → statement M
+write-spec = tie.close (tie.spec returns put-requires same-length returns-2)

@@ -3,8 +3,8 @@ use native.Mathlib.Omega.{arith}
 use Rattle.labels.proofs.DigitWords.{four-below}
 use Rattle.labels.proofs.Positions.{two-to-five, hours-begin}
 use borrow.Author.Needs.{needs}
-use Rattle.labels.proofs.webvtt.put_hours.Statement.{statement}
-use Rattle.labels.proofs.webvtt.put_hours.Tie as tie
+use Rattle.labels.proofs.long_position.put_hours.Statement.{statement}
+use Rattle.labels.proofs.long_position.put_hours.Tie as tie
 
 cast-text : tie.Need-cast-text
 cast-text c = search needs

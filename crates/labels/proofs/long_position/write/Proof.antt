@@ -3,8 +3,8 @@ use Rattle.labels.specs.Webvtt.{positionText}
 use Rattle.labels.proofs.Writing.{no-room, all-written}
 use Rattle.labels.proofs.Positions.{length-position, clock-behind}
 use borrow.Author.Needs.{needs}
-use Rattle.labels.proofs.webvtt.write_long.Statement.{statement}
-use Rattle.labels.proofs.webvtt.write_long.Tie as tie
+use Rattle.labels.proofs.long_position.write.Statement.{statement}
+use Rattle.labels.proofs.long_position.write.Tie as tie
 
 cast-hours : tie.Need-cast-hours
 cast-hours c = search needs
@@ -41,8 +41,8 @@ returns-2 c =
     all-written (positionText n) (s .args .out .now) (omega arith) (omega arith)
     (clock-behind n (s .args .out .now) d (c .before .before .before .before .before .before .put-hours .ensures) (c .before .before .before .before .before .out .given) (omega arith) (c .before .before .put-clock .ensures))
 
-pub write-long-spec : {M : Type 1} → statement M
-write-long-spec =
+pub write-spec : {M : Type 1} → statement M
+write-spec =
     tie.close
     (tie.spec
     cast-hours

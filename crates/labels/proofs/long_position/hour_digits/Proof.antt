@@ -8,8 +8,8 @@ use mir.Val.{boolByte}
 use Rattle.labels.specs.Webvtt.{hourDigits}
 use Rattle.labels.proofs.Positions.{by-hours, two-to-five}
 use borrow.Author.Needs.{needs}
-use Rattle.labels.proofs.webvtt.hour_digits.Statement.{statement}
-use Rattle.labels.proofs.webvtt.hour_digits.Tie as tie
+use Rattle.labels.proofs.long_position.hour_digits.Statement.{statement}
+use Rattle.labels.proofs.long_position.hour_digits.Tie as tie
 
 bool-le : (t : Bool) → boolByte t ≤ 1
 bool-le true = omega arith
