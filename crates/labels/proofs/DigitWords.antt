@@ -17,17 +17,11 @@ place-1000 n = rw (div-div-eq-div-mul n 10 10, div-div-eq-div-mul n 100 10)
 pub place-100 : (n : ℕ) → n / 10 / 10 ≡ n / 100
 place-100 n = rw (div-div-eq-div-mul n 10 10)
 
--- two digits, and a byte behind them
-module _ (n : ℕ) {r : ℕ} (h : n < 100) (e : r ≡ 48 + n / 10 + 256 * (48 + n % 10)) where
-  pub two-stored : (r < 2 ^ 16) × (bytesOf 2 r ≡ digits n 2)
-  two-stored =
-      let w : r ≡ word (digits n 2) = omega arith in
-      (omega arith, all-bytes (digits n 2) w (omega arith, (omega arith, tt)) refl)
-
-  pub three-stored : (byte : ℕ) → byte < 2 ^ 8 → (r + byte * 65536 < 2 ^ 24) × (bytesOf 3 (r + byte * 65536) ≡ digits n 2 ++ byte ∷ [])
-  three-stored byte k =
-      let w : r + byte * 65536 ≡ word (digits n 2 ++ byte ∷ []) = omega arith in
-      (omega arith, all-bytes (digits n 2 ++ byte ∷ []) w (omega arith, (omega arith, (omega arith, tt))) refl)
+-- two digits
+pub two-stored : (n : ℕ) {r : ℕ} → n < 100 → r ≡ 48 + n / 10 + 256 * (48 + n % 10) → (r < 2 ^ 16) × (bytesOf 2 r ≡ digits n 2)
+two-stored n {r} h e =
+    let w : r ≡ word (digits n 2) = omega arith in
+    (omega arith, all-bytes (digits n 2) w (omega arith, (omega arith, tt)) refl)
 
 module _ (n : ℕ) (h : n < 10000) where
   abbrev two-pairs : List Cell

@@ -10,14 +10,14 @@ use crate::time_fields;
 use crate::two_digits;
 use refusal::Refusal;
 ghost use mathlib.Core.Path.{_≡_};
-ghost use Prim.Native.Nat.{_+_, _*_, _≤_, _<_, _^_};
+ghost use Prim.Native.Nat.{_+_, _*_, _≤_, _<_};
 ghost use mathlib.Core.List.{[], _∷_};
 ghost use lib.ListN.{length};
 ghost use Rattle.refusal.specs.Outcome.{value};
 ghost use Rattle.labels.specs.Written.{writeOutcome, bytesWritten, writtenBuffer};
 ghost use Rattle.labels.specs.Digits.{digits};
 ghost use Rattle.labels.specs.Filled.{filled};
-ghost use Rattle.labels.specs.Words.{bytesOf, partOf};
+ghost use Rattle.labels.specs.Words.{partOf};
 ghost use Rattle.labels.specs.Webvtt.{positionText};
 ghost use Rattle.labels.specs.PositionPieces.{hundredHours, shortText, ShortTime};
 
@@ -39,7 +39,7 @@ pub fn write(n: u64, out: &mut [u8]) -> WriteAnswer
     WriteAnswer::Written(LENGTH)
 }
 
-// Fills the front of a buffer with the label.
+// Fills the front of a buffer with the label. The two loops are one for the compiler to unroll: see two_digits.
 fn put(out: &mut [u8], n: u64)
     requires { ⌜ (n < hundredHours) × (12 ≤ length (now out)) ⌝ }
     ensures { λ r. ⌜ now (out .exit) ≡ filled 0 (positionText n) (now (out .entry)) ⌝ }
@@ -48,32 +48,13 @@ fn put(out: &mut [u8], n: u64)
     let rest = n % MS_PER_MINUTE;
     let mut i = 0;
     while i < 4 {
-        put_two(out, i, minutes, rest);
-        i += 2;
+        let end = i + 2;
+        while i < end {
+            let text = two_digits::text_of(number_at(i, minutes, rest) as u32);
+            buffer::store(out, 3 * i, text, 2, last_byte(i, minutes, rest));
+            i += 1;
+        }
     }
-}
-
-// Puts two of the pieces into their places, from one of them on.
-fn put_two(out: &mut [u8], from: usize, minutes: u64, rest: u64)
-    requires { ⌜ ((from + 2 ≤ 4) × ShortTime minutes rest) × (12 ≤ length (now out)) ⌝ }
-    ensures { λ r. ⌜ now (out .exit) ≡ filled (3 * from) (partOf (3 * from) 6 (shortText minutes rest)) (now (out .entry)) ⌝ }
-{
-    let end = from + 2;
-    let mut i = from;
-    while i < end {
-        let text = piece(i, minutes, rest);
-        buffer::store(out, 3 * i, text, 2, (text / 0x1_0000) as u8);
-        i += 1;
-    }
-}
-
-// The three bytes of a piece as one number.
-fn piece(i: usize, minutes: u64, rest: u64) -> u64
-    requires { ⌜ (i < 4) × ShortTime minutes rest ⌝ }
-    ensures { λ r. ⌜ (r < 2 ^ 24) × (bytesOf 3 r ≡ partOf (3 * i) 3 (shortText minutes rest)) ⌝ }
-{
-    two_digits::text_of(number_at(i, minutes, rest) as u32)
-        + last_byte(i, minutes, rest) as u64 * 0x1_0000
 }
 
 // The number whose two digits a piece begins with: the hours, the minute, the second or the hundredths of it.
@@ -92,7 +73,7 @@ fn number_at(i: usize, minutes: u64, rest: u64) -> u64
 // What stands behind the two digits.
 fn last_byte(i: usize, minutes: u64, rest: u64) -> u8
     requires { ⌜ (i < 4) × ShortTime minutes rest ⌝ }
-    ensures { λ r. ⌜ (r < 2 ^ 8) × (r ∷ [] ≡ partOf (3 * i + 2) 1 (shortText minutes rest)) ⌝ }
+    ensures { λ r. ⌜ r ∷ [] ≡ partOf (3 * i + 2) 1 (shortText minutes rest) ⌝ }
 {
     match i {
         0 => COLON,

@@ -25,19 +25,19 @@ cast-result-2 : tie.Need-cast-result-2
 cast-result-2 c = search needs
 
 returns : tie.Need-returns
-returns c = (omega arith, sym (ap (end-of (c .before)) (c .match .keys1)))
+returns c = sym (ap (end-of (c .before)) (c .match .keys1))
 
 returns-2 : tie.Need-returns-2
-returns-2 c = (omega arith, sym (ap (end-of (c .before)) (c .match .keys2)))
+returns-2 c = sym (ap (end-of (c .before)) (c .match .keys2))
 
 returns-3 : tie.Need-returns-3
-returns-3 c = (omega arith, sym (ap (end-of (c .before)) (c .match .keys3)))
+returns-3 c = sym (ap (end-of (c .before)) (c .match .keys3))
 
 returns-4 : tie.Need-returns-4
 returns-4 c =
     let s = c .before .before in
     let third : s .args .i ≡ 3 = omega (arith, s .pre .0, c .before .match .rest) in
-    (omega (arith, c .last-digit .ensures), ap (λ d. (48 + d) ∷ []) (c .last-digit .ensures) ∙ sym (ap (end-of s) third))
+    ap (λ d. (48 + d) ∷ []) (c .last-digit .ensures) ∙ sym (ap (end-of s) third)
 
 pub last-byte-spec : {M : Type 1} → statement M
 last-byte-spec =
