@@ -9,7 +9,6 @@ use borrow.Author.Tests.{ltb-true, ltb-false, lt-ltb}
 use lib.Dec.{ltb}
 use lib.IntN.{ℤ, pos, natAbs}
 use lib.ListN.{length, drop, length-append}
-use lib.Seq.{append-snoc, drop-append-le}
 use mir.Syntax.{w64}
 use mir.Val.{SFits}
 use mir.Facts.{toZ-ofZ}
@@ -123,43 +122,37 @@ five-digits n h =
     let e : n % 10000 % 10 ≡ n % 10 = omega arith in
     cc
 
-length-hours : (h count : ℕ) → length (digits h count ++ colon ∷ []) ≡ count + 1
-length-hours h count = length-append (digits h count) (colon ∷ []) ∙ ap (λ l. l + 1) (length-digits h count)
-
 module _ (h : ℕ) {count : ℕ} (c : count ≡ hourDigits h) (buffer : List ℕ) {after : List ℕ} (room : 8 ≤ length buffer) where
-  -- five digits and the colon in one number, without the first ones
+  -- five digits in one number, without the first ones
   pub hours-begin :
       h < 100000 → {four : ℕ} → four ≡ word (digits (h % 10000) 4) →
-      after ≡ filled 0 (bytesOf 7 ((colon * 1099511627776 + four * 256 + (48 + h / 10000)) / 2 ^ (8 * (5 - count))) ++ 0 ∷ []) buffer →
-      Begins (digits h count ++ colon ∷ []) 8 buffer after
+      after ≡ filled 0 (bytesOf 7 ((four * 256 + (48 + h / 10000)) / 2 ^ (8 * (5 - count))) ++ 0 ∷ []) buffer →
+      Begins (digits h count) 8 buffer after
   hours-begin l {four} f e =
-      let text = digits h count ++ colon ∷ [] in
+      let text = digits h count in
       let most : count ≤ 5 = omega (arith, two-to-five h) in
       let k = 5 - count in
-      let w : colon * 1099511627776 + four * 256 + (48 + h / 10000) ≡ word (digits h 5 ++ colon ∷ []) =
-      omega (arith, f) ∙ ap (λ l. word (l ++ colon ∷ [])) (five-digits h l) in
-      let a : AllLe 255 (digits h 5 ++ colon ∷ []) = (omega arith, (omega arith, (omega arith, (omega arith, (omega arith, (omega arith, tt)))))) in
+      let w : four * 256 + (48 + h / 10000) ≡ word (digits h 5) = omega (arith, f) ∙ ap word (five-digits h l) in
+      let a : AllLe 255 (digits h 5) = (omega arith, (omega arith, (omega arith, (omega arith, (omega arith, tt))))) in
       let s : k + count ≡ 5 = omega arith in
-      let cut : drop k (digits h 5 ++ colon ∷ []) ≡ text =
-      drop-append-le k (digits h 5) (colon ∷ []) (omega arith) ∙ ap (λ l. l ++ colon ∷ []) (ap (λ n. drop k (digits h n)) (sym s) ∙ drop-digits h k count) in
-      let n = (colon * 1099511627776 + four * 256 + (48 + h / 10000)) / 2 ^ (8 * k) in
-      let v : n ≡ word text = ap (λ w. w / 2 ^ (8 * k)) w ∙ word-drop (digits h 5 ++ colon ∷ []) k a ∙ ap word cut in
-      let b : bytesOf (count + 1) n ≡ text = all-bytes text v (subst (AllLe 255) cut (drop-le 255 k (digits h 5 ++ colon ∷ []) a)) (length-hours h count) in
-      let m = more-bytes (count + 1) (6 - count) n in
-      let t : 6 - count + (count + 1) ≡ 7 = omega arith in
+      let cut : drop k (digits h 5) ≡ text = ap (λ n. drop k (digits h n)) (sym s) ∙ drop-digits h k count in
+      let n = (four * 256 + (48 + h / 10000)) / 2 ^ (8 * k) in
+      let v : n ≡ word text = ap (λ w. w / 2 ^ (8 * k)) w ∙ word-drop (digits h 5) k a ∙ ap word cut in
+      let b : bytesOf count n ≡ text = all-bytes text v (subst (AllLe 255) cut (drop-le 255 k (digits h 5) a)) (length-digits h count) in
+      let m = more-bytes count (7 - count) n in
+      let t : 7 - count + count ≡ 7 = omega arith in
       let p : bytesOf 7 n ++ 0 ∷ [] ≡ text ++ (m .0 ++ 0 ∷ []) =
       ap (λ j. bytesOf j n ++ 0 ∷ []) (sym t) ∙ ap (λ l. l ++ 0 ∷ []) (m .1 .0 ∙ ap (λ l. l ++ m .0) b) ∙ append-assoc text (m .0) (0 ∷ []) in
       filled-begins text (m .0 ++ 0 ∷ []) buffer (e ∙ ap (λ l. filled 0 l buffer) p)
-      (omega (arith, length-append text (m .0 ++ 0 ∷ []), length-append (m .0) (0 ∷ []), length-hours h count, m .1 .1)) room
+      (omega (arith, length-append text (m .0 ++ 0 ∷ []), length-append (m .0) (0 ∷ []), length-digits h count, m .1 .1)) room
 
 -- the clock behind the hours makes the label
 pub clock-behind :
-    (n : ℕ) (before : List ℕ) {count : ℕ} {between after : List ℕ} → count ≡ hourDigits (n / perHour) → Begins (digits (n / perHour) count ++ colon ∷ []) 8 before between →
-    length between ≡ length before → count + 10 ≤ length before → after ≡ filled (count + 1) (clockOf n) between → after ≡ filled 0 (positionText n) before
+    (n : ℕ) (before : List ℕ) {count : ℕ} {between after : List ℕ} → count ≡ hourDigits (n / perHour) → Begins (digits (n / perHour) count) 8 before between →
+    length between ≡ length before → count + 10 ≤ length before → after ≡ filled count (colon ∷ clockOf n) between → after ≡ filled 0 (positionText n) before
 clock-behind n before {count} {between} c b l room e =
     let h = n / perHour in
-    let text = digits h count ++ colon ∷ [] in
-    let t = length-hours h count in
-    e ∙ ap (λ k. filled k (clockOf n) between) (sym t)
-    ∙ filled-over text (clockOf n) b (omega (arith, t)) (omega (arith, t, l)) (omega (arith, t))
-    ∙ ap (λ l. filled 0 l before) (append-snoc (digits h count) colon (clockOf n) ∙ ap (λ k. digits h k ++ colon ∷ clockOf n) c)
+    let t = length-digits h count in
+    e ∙ ap (λ k. filled k (colon ∷ clockOf n) between) (sym t)
+    ∙ filled-over (digits h count) (colon ∷ clockOf n) b (omega (arith, t)) (omega (arith, t, l)) (omega (arith, t))
+    ∙ ap (λ k. filled 0 (digits h k ++ colon ∷ clockOf n) before) c

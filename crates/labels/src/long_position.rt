@@ -12,7 +12,7 @@ use crate::timestamp::SECONDS_PER_MINUTE;
 use refusal::Refusal;
 ghost use mathlib.Core.Path.{_≡_};
 ghost use Prim.Native.Nat.{_+_, _≤_, _<_};
-ghost use mathlib.Core.List.{[], _∷_, _++_};
+ghost use mathlib.Core.List.{_∷_};
 ghost use lib.IntN.{natAbs};
 ghost use lib.ListN.{length};
 ghost use Rattle.refusal.specs.Outcome.{value};
@@ -36,7 +36,7 @@ pub fn write(n: u64, out: &mut [u8]) -> WriteAnswer
         return WriteAnswer::Refused(Refusal::BufferTooShort);
     }
     put_hours(out, hours, count);
-    put_clock(out, count + 1, n);
+    put_clock(out, count, n);
     WriteAnswer::Written(length)
 }
 
@@ -48,28 +48,27 @@ fn hour_digits(hours: u32) -> usize
     3 + (hours >= 1000) as usize + (hours >= 10000) as usize
 }
 
-// Writes the digits of the hours and a colon: five digits and the colon as one number, of which the digits that are too many are
-// shifted out. Bytes behind them and before byte 8 may change.
+// Writes the digits of the hours: five of them as one number, from which those that are too many are shifted out. Bytes behind them and
+// before byte 8 may change.
 fn put_hours(out: &mut [u8], hours: u32, count: usize)
     requires { ⌜ ((hours < 100000) × (count ≡ hourDigits hours)) × (8 ≤ length (now out)) ⌝ }
-    ensures { λ r. ⌜ Begins (digits hours count ++ colon ∷ []) 8 (now (out .entry)) (now (out .exit)) ⌝ }
+    ensures { λ r. ⌜ Begins (digits hours count) 8 (now (out .entry)) (now (out .exit)) ⌝ }
 {
-    let text = COLON as u64 * 0x100_0000_0000
-        + digits::four(hours % 10000) * 256
-        + (ZERO + hours / 10000) as u64;
+    let text = digits::four(hours % 10000) * 256 + (ZERO + hours / 10000) as u64;
     buffer::store(out, 0, text >> (8 * (5 - count)), 7, 0);
 }
 
-// Writes `MM:SS.mmm` of a position from byte `at` of a buffer on.
+// Writes `:MM:SS.mmm` of a position from byte `at` of a buffer on.
 fn put_clock(out: &mut [u8], at: usize, n: u64)
-    requires { ⌜ at + 9 ≤ length (now out) ⌝ }
-    ensures { λ r. ⌜ now (out .exit) ≡ filled at (clockOf n) (now (out .entry)) ⌝ }
+    requires { ⌜ at + 10 ≤ length (now out) ⌝ }
+    ensures { λ r. ⌜ now (out .exit) ≡ filled at (colon ∷ clockOf n) (now (out .entry)) ⌝ }
 {
+    buffer::store(out, at, 0, 0, COLON);
     let rest = (n % MS_PER_HOUR) as u32;
     let seconds = rest / MS_PER_SECOND;
     clock::put(
         out,
-        at,
+        at + 1,
         seconds / SECONDS_PER_MINUTE,
         seconds % SECONDS_PER_MINUTE,
         rest % MS_PER_SECOND,

@@ -1,12 +1,23 @@
-use mathlib.Core.Path.{ap, _∙_}
+use Prim.Native.Nat.{_+_}
+use mathlib.Core.Path.{refl, ap, _∙_}
+use mathlib.Core.List.{[], _∷_}
+use Rattle.labels.specs.Clock.{colon}
 use Rattle.labels.specs.Filled.{filled}
+use Rattle.labels.specs.Webvtt.{clockOf}
+use Rattle.labels.proofs.Filled.{filled-then}
 use Rattle.labels.proofs.Positions.{clock-is}
 use borrow.Author.Needs.{needs}
 use Rattle.labels.proofs.long_position.put_clock.Statement.{statement}
 use Rattle.labels.proofs.long_position.put_clock.Tie as tie
 
+store-requires : tie.Need-store-requires
+store-requires c κs = search needs
+
 cast-rest : tie.Need-cast-rest
 cast-rest c = search needs
+
+add-put : tie.Need-add-put
+add-put c = search needs
 
 put-requires : tie.Need-put-requires
 put-requires c κs = search needs
@@ -16,8 +27,11 @@ same-length c = search needs
 
 returns : tie.Need-returns
 returns c =
-    let a = c .before .before .before .before .before .args in
-    c .before .before .put .ensures ∙ ap (λ text. filled (a .at) text (a .out .now)) (clock-is (a .n))
+    let a = c .before .before .before .before .before .before .before .before .before .args in
+    let first = c .before .before .before .before .before .before .store in
+    filled-then (a .at) (colon ∷ []) (clockOf (a .n)) (a .out .now) (first .ensures) refl
+    (c .before .before .put .ensures ∙ ap (λ text. filled (a .at + 1) text (first .last .0)) (clock-is (a .n)))
 
 pub put-clock-spec : {M : Type 1} → statement M
-put-clock-spec = tie.close (tie.spec cast-rest put-requires same-length returns)
+put-clock-spec =
+    tie.close (tie.spec store-requires cast-rest add-put put-requires same-length returns)

@@ -6,29 +6,20 @@ use borrow.Author.Needs.{needs}
 use Rattle.labels.proofs.long_position.put_hours.Statement.{statement}
 use Rattle.labels.proofs.long_position.put_hours.Tie as tie
 
-cast-text : tie.Need-cast-text
-cast-text c = search needs
+four-requires : tie.Need-four-requires
+four-requires c κs = search needs
 
 mul-text : tie.Need-mul-text
 mul-text c = search needs
 
-four-requires : tie.Need-four-requires
-four-requires c κs = search needs
-
-mul-text-2 : tie.Need-mul-text-2
-mul-text-2 c = search needs
-
 add-text : tie.Need-add-text
 add-text c = search needs
 
+cast-text : tie.Need-cast-text
+cast-text c = search needs
+
 add-text-2 : tie.Need-add-text-2
-add-text-2 c = search needs
-
-cast-text-2 : tie.Need-cast-text-2
-cast-text-2 c = search needs
-
-add-text-3 : tie.Need-add-text-3
-add-text-3 c = omega (arith, four-below (c .before .before .args .hours % 10000) (c .four .ensures))
+add-text-2 c = omega (arith, four-below (c .before .before .args .hours % 10000) (c .four .ensures))
 
 sub-store : tie.Need-sub-store
 sub-store c = omega (arith, two-to-five (c .before .before .before .args .hours))
@@ -54,14 +45,11 @@ pub put-hours-spec : {M : Type 1} → statement M
 put-hours-spec =
     tie.close
     (tie.spec
-    cast-text
-    mul-text
     four-requires
-    mul-text-2
+    mul-text
     add-text
+    cast-text
     add-text-2
-    cast-text-2
-    add-text-3
     sub-store
     mul-store
     shr-store

@@ -23,9 +23,6 @@ returns c =
 put-hours-requires : tie.Need-put-hours-requires
 put-hours-requires c κs = search needs
 
-add-put-clock : tie.Need-add-put-clock
-add-put-clock c = search needs
-
 put-clock-requires : tie.Need-put-clock-requires
 put-clock-requires c κs = search needs
 
@@ -50,7 +47,6 @@ write-spec =
     add-length
     returns
     put-hours-requires
-    add-put-clock
     put-clock-requires
     same-length
     returns-2)
