@@ -14,7 +14,7 @@ RATTLE := crates.txt $(shell find crates -name '*.rt' -o -name '*.antt')
 VERSION := $(subst $() ,.,$(strip $(shell sed -n 's/^.define OVENQUILL_VERSION_[A-Z]* //p' include/ovenquill.h)))
 
 .PHONY: all demo test bench install clean
-.PHONY: test-dates test-edits test-declarations test-c test-labels test-weeks test-examples test-install test-rust test-readme
+.PHONY: test-dates test-edits test-declarations test-c test-labels test-weeks test-stack test-examples test-install test-rust test-readme
 
 all: $(LIB) $(EXAMPLES)
 
@@ -31,7 +31,7 @@ demo: $(EXAMPLES)
 	printf '%s\n' 1683729000000 -1 0 951782400000 -2208988800000 | build/player
 	build/check_claim 1 0 10 26 0 8 0 69
 
-test: test-dates test-edits test-declarations test-c test-labels test-weeks test-examples test-install test-rust test-readme
+test: test-dates test-edits test-declarations test-c test-labels test-weeks test-stack test-examples test-install test-rust test-readme
 
 # The expected output of the program `dates` is what an independent program prints today.
 test-dates:
@@ -61,6 +61,9 @@ test-labels: $(LIB)
 test-weeks: $(LIB)
 	tests/test_weeks.py $(LIB)
 
+test-stack: $(LIB)
+	tests/test_stack.py $(LIB)
+
 test-examples: $(EXAMPLES)
 	tests/examples/run build
 
@@ -76,10 +79,9 @@ build/chrono/libovenquill_chrono.a: rust/benches/chrono.cpp
 	$(CXX) -O3 -std=c++20 -falign-functions=64 -c $< -o build/chrono/chrono.o
 	ar rcs $@ build/chrono/chrono.o
 
-# Whether it has, asked only where the rival is wanted. 043 is the number sign, which make would take for a comment.
+# Whether it has, asked only where the rival is wanted.
 ifneq ($(filter test test-rust bench,$(MAKECMDGOALS)),)
-HAS_CHRONO := $(shell printf '\043include <chrono>\nstd::chrono::sys_days day;\n' \
-  | $(CXX) -std=c++20 -x c++ -fsyntax-only - 2> /dev/null && echo yes)
+HAS_CHRONO := $(shell $(CXX) -std=c++20 -fsyntax-only rust/benches/chrono.cpp 2> /dev/null && echo yes)
 endif
 ifeq ($(HAS_CHRONO),yes)
 CHRONO := build/chrono/libovenquill_chrono.a
@@ -107,7 +109,7 @@ bench: $(ALIGNED) $(CHRONO) $(LENGTHS)
 	  RUSTFLAGS="$$RUSTFLAGS -C llvm-args=-align-all-functions=6" cargo bench --quiet --target-dir ../build/bench
 
 # A relative PREFIX is one in this folder. One with a blank in it is kept, which $(abspath ..) would not do.
-INSTALLED := $(if $(filter /%,$(firstword $(PREFIX))),,$(CURDIR)/)$(PREFIX)
+INSTALLED := $(if $(PREFIX),$(if $(filter /%,$(firstword $(PREFIX))),,$(CURDIR)/))$(PREFIX)
 
 install: $(LIB)
 	install -d '$(DESTDIR)$(INSTALLED)/lib/pkgconfig' '$(DESTDIR)$(INSTALLED)/include'

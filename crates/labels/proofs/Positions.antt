@@ -82,11 +82,11 @@ short-hours n h =
     let below : n / perHour < 100 = omega arith in
     ap (λ t. cond t 2 (cond (ltb (n / perHour) 1000) 3 (cond (ltb (n / perHour) 10000) 4 5))) (lt-ltb (n / perHour) 100 below)
 
-pub short-text : (n : ℕ) → n < hundredHours → shortText (n / 60000) (n % 60000) ≡ positionText n
+pub short-text : (n : ℕ) → n < hundredHours → shortText (n / perMinute) (n % perMinute) ≡ positionText n
 short-text n h =
-    let hours : n / 60000 / 60 ≡ n / perHour = div-div-eq-div-mul n 60000 60 in
-    let minute : n / 60000 % 60 ≡ n % perHour / perMinute = omega arith in
-    let fraction : n % 60000 % 1000 ≡ n % perSecond = omega arith in
+    let hours : n / perMinute / 60 ≡ n / perHour = div-div-eq-div-mul n perMinute 60 in
+    let minute : n / perMinute % 60 ≡ n % perHour / perMinute = omega arith in
+    let fraction : n % perMinute % 1000 ≡ n % perSecond = omega arith in
     (λ i. digits (hours i) 2 ++ colon ∷ clockText 3 (minute i) (n % perMinute / perSecond) (fraction i)) ∙ sym (ap (λ k. digits (n / perHour) k ++ colon ∷ clockOf n) (short-hours n h))
 
 -- ---- the hours

@@ -39,7 +39,7 @@ pub fn write(n: u64, out: &mut [u8]) -> WriteAnswer
     WriteAnswer::Written(LENGTH)
 }
 
-// Fills the front of a buffer with the label. The two loops are one for the compiler to unroll: see two_digits.
+// Fills the front of a buffer with the label. There are two loops where one would do for the sake of two_digits::text_of.
 fn put(out: &mut [u8], n: u64)
     requires { ⌜ (n < hundredHours) × (12 ≤ length (now out)) ⌝ }
     ensures { λ r. ⌜ now (out .exit) ≡ filled 0 (positionText n) (now (out .entry)) ⌝ }

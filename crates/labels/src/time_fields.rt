@@ -1,5 +1,5 @@
 // The fields of a time that labels show, by products with 32 bits behind the point: each factor is 2^32 / d rounded up, so that the
-// product of n holds n / d, and behind the point n % d and an error that stays below the next number.
+// product of n holds n / d, and behind the point (n % d) / d with an error that is too small to reach the next number.
 
 ghost use mathlib.Core.Path.{_≡_};
 ghost use Prim.Native.Nat.{_+_, _*_, _/_, _%_, _<_};

@@ -4,7 +4,7 @@ ghost use mathlib.Core.Path.{_≡_};
 ghost use Prim.Native.Nat.{_+_, _*_, _/_, _%_, _<_};
 
 // The two digits of a number as bytes of one number, the first the lower. The compiler makes a table of the arms that no call copies,
-// where a call of it stands in a loop in a loop of one function, or is the only one left.
+// where a call of it stands in a loop in a loop; one other call may be in a single loop.
 pub fn text_of(n: u32) -> u64
     requires { ⌜ n < 100 ⌝ }
     ensures { λ r. ⌜ r ≡ 48 + n / 10 + 256 * (48 + n % 10) ⌝ }

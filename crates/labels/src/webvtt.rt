@@ -45,7 +45,7 @@ pub fn write_position(position: i64, out: &mut [u8]) -> WriteAnswer
     ensures answer { λ r. ⌜ writeOutcome r ≡ bytesWritten (positionLabel position) (now (out .entry)) ⌝ }
     ensures buffer { λ r. ⌜ now (out .exit) ≡ writtenBuffer (positionLabel position) (now (out .entry)) ⌝ }
 {
-    // Most positions have two digits of hours.
+    // Those with two digits of hours first.
     if !numbers::outside(0, LAST_SHORT, position) {
         return short_position::write(position as u64, out);
     }

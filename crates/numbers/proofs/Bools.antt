@@ -1,5 +1,6 @@
 -- Tests that are both made, taken apart.
 use mathlib.Core.Path.{_≡_, refl, sym, _∙_}
+use mathlib.Core.Logic.{_↔_, _⊎_, inl, inr, ⊎-elim}
 use mathlib.Core.Bool.{Bool, true, false, not, _&&_, _||_, Bool·beq, true≢false}
 
 -- a test has one answer
@@ -10,6 +11,11 @@ no-both t p q = absurd (true≢false (sym p ∙ q))
 pub or-no : (a b : Bool) → (a || b) ≡ false → (a ≡ false) × (b ≡ false)
 or-no true b h = no-both true refl h
 or-no false b h = (refl, h)
+
+-- one of them does
+pub or-yes : (a b : Bool) → ((a || b) ≡ true) ↔ ((a ≡ true) ⊎ (b ≡ true))
+or-yes true b = (λ h. inl refl, λ c. refl)
+or-yes false b = (inr, ⊎-elim (λ h. no-both false h refl) (λ h. h))
 
 -- both hold
 pub and-left : (a b : Bool) → a && b ≡ true → a ≡ true

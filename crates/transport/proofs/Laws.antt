@@ -1,8 +1,8 @@
 -- The laws of the follower: its answers by the step, the true positions given back, refused values, batches, milliseconds.
 use Prim.Native.Nat.{ℕ, _+_, _*_, _≤_}
 use mathlib.Core.Path.{_≡_, refl, sym, ap, ap₂, _∙_}
-use mathlib.Core.Bool.{Bool, true, false, cond}
-use mathlib.Core.Logic.{_↔_}
+use mathlib.Core.Bool.{Bool, true, false, cond, _||_}
+use mathlib.Core.Logic.{_↔_, _⊎_, inl, inr, ⊎-elim}
 use mathlib.Core.List.{List, [], _∷_, _++_, map, foldl, foldl-append}
 use native.Mathlib.Nat.{mod-eq-of-lt}
 use native.Mathlib.Omega.{arith}
@@ -14,12 +14,13 @@ use Rattle.refusal.specs.Outcome.{Outcome, value, refused, refusedAt, afterCall
 use Rattle.refusal.proofs.Outcomes.{clash, passes, same-value}
 use Rattle.numbers.specs.Floor.{floorRemainder}
 use Rattle.numbers.specs.Range.{outside}
+use Rattle.numbers.proofs.Bools.{or-yes}
 use Rattle.numbers.proofs.Between.{inside-pos, natural-within}
 use Rattle.numbers.proofs.Floor.{remainder-below}
 use Rattle.numbers.proofs.Integers.{add-difference}
 use Rattle.numbers.proofs.Quotients.{quotient-monotone}
 use Rattle.transport.specs.Wraps.{wrap, lastValue, lastPosition, Step, reached, millisecondsOf, positionAt}
-use Rattle.transport.specs.Answers.{notFollowed, followAnswer, clockAfter, ifRefused, soFar, oneMore, followAllAnswer}
+use Rattle.transport.specs.Answers.{badClock, notFollowed, followAnswer, clockAfter, ifRefused, soFar, oneMore, followAllAnswer}
 use Rattle.transport.specs.Runs.{answersTo, Onward, RunFrom, done, more, shownAt}
 use Rattle.transport.specs.declared.Clock.{Clock}
 use Rattle.transport.specs.declared.Clock.the-variants.{Nothing, At}
@@ -50,13 +51,24 @@ pub first-as-it-is :
     (followAnswer Nothing heard ≡ value (positionAt heard)) × (clockAfter Nothing heard ≡ At heard)
 first-as-it-is heard h = accepted-is Nothing heard (first-value heard h)
 
--- 14 exactly if a value, a position handed in or the position that is reached lies outside
-pub fourteen-exactly : (clock : Clock) (heard : ℤ) → (followAnswer clock heard ≡ refused 14) ↔ (notFollowed clock heard ≡ true)
-fourteen-exactly clock heard = (λ e. not-followed (notFollowed clock heard) refl e, λ h. refused-is clock heard h .0)
-  where
-    not-followed : (t : Bool) → notFollowed clock heard ≡ t → followAnswer clock heard ≡ refused 14 → t ≡ true
-    not-followed true p e = refl
-    not-followed false p e = let v = accepted-is clock heard p .0 in clash (cc)
+-- 14 exactly if the value is outside its range, or the position handed in is, or the one that is reached
+module _ (clock : Clock) (heard : ℤ) where
+  not-followed : followAnswer clock heard ≡ refused 14 → notFollowed clock heard ≡ true
+  not-followed = go (notFollowed clock heard) refl
+    where
+      go : (t : Bool) → notFollowed clock heard ≡ t → followAnswer clock heard ≡ refused 14 → t ≡ true
+      go true p e = refl
+      go false p e = let v = accepted-is clock heard p .0 in clash (cc)
+
+  abbrev outsideReached : Bool
+  outsideReached = outside (pos 0) lastPosition (reached clock heard)
+
+  pub fourteen-exactly :
+      (followAnswer clock heard ≡ refused 14) ↔ ((outside (pos 0) lastValue heard ≡ true) ⊎ ((badClock clock ≡ true) ⊎ (outside (pos 0) lastPosition (reached clock heard) ≡ true)))
+  fourteen-exactly =
+      let any = or-yes (outside (pos 0) lastValue heard) (badClock clock || outsideReached) in
+      let positions = or-yes (badClock clock) outsideReached in
+      (λ e. ⊎-elim inl (λ h. inr (positions .0 h)) (any .0 (not-followed e)), λ c. refused-is clock heard (any .1 (⊎-elim inl (λ h. inr (positions .1 h)) c)) .0)
 
 -- the clock goes on from the position that an accepted value answers
 pub goes-on-from : (clock : Clock) (heard : ℤ) (p : Position) → followAnswer clock heard ≡ value p → clockAfter clock heard ≡ At (p .ticks)

@@ -3,6 +3,7 @@ use mathlib.Core.Path.{_≡_, refl, sym, ap, ap₂, _∙_, subst}
 use mathlib.Core.List.{_++_}
 use native.Mathlib.Omega.{arith}
 use Rattle.labels.specs.Filled.{filled}
+use Rattle.labels.specs.Webvtt.{perMinute}
 use Rattle.labels.specs.PositionPieces.{shortText}
 use Rattle.labels.proofs.Words.{part-two}
 use Rattle.labels.proofs.DigitWords.{two-stored}
@@ -25,13 +26,13 @@ abbrev μ-loop : tie.MeasureT-loop
 μ-loop out₀ n minutes rest i₀ out i = 4 - i
 
 loop-holds : tie.Need-loop-holds Inv-loop2 μ-loop2 Inv-loop μ-loop
-loop-holds c = let a = c .before .args in ((omega arith, refl), none-placed 3 0 (shortText (a .n / 60000) (a .n % 60000)) (a .out .now))
+loop-holds c = let a = c .before .args in ((omega arith, refl), none-placed 3 0 (shortText (a .n / perMinute) (a .n % perMinute)) (a .out .now))
 
 loop2-holds : tie.Need-loop2-holds Inv-loop2 μ-loop2 Inv-loop μ-loop
 loop2-holds c =
     let l = c .before .loop in
     let a = c .before .before .before .args in
-    ((omega arith, (omega arith, refl)), none-placed 3 (l .i) (shortText (a .n / 60000) (a .n % 60000)) (l .out))
+    ((omega arith, (omega arith, refl)), none-placed 3 (l .i) (shortText (a .n / perMinute) (a .n % perMinute)) (l .out))
 
 loop-again : tie.Need-loop-again Inv-loop2 μ-loop2 Inv-loop μ-loop
 loop-again c =
@@ -39,7 +40,7 @@ loop-again c =
     let t = c .before .before in
     let l = t .before .loop in
     let a = t .before .before .before .args in
-    let text = shortText (a .n / 60000) (a .n % 60000) in
+    let text = shortText (a .n / perMinute) (a .n % perMinute) in
     let two = all-placed 3 (l .i) text (l .out) (m .inv .1) (m .inv .0 .0) {count = 6} (omega (arith, m .inv .0, c .loop2-test .left)) in
     let i : l .i + 2 ≡ m .i = omega (arith, m .inv .0, c .loop2-test .left) in (
       (omega (arith, l .inv .0, t .loop-test .taken, i), omega (arith, l .inv .0, i)),
@@ -54,7 +55,7 @@ loop2-again c =
     let m = t .before .loop2 in
     let l = t .before .before .before .loop in
     let a = t .before .before .before .before .before .args in
-    let text = shortText (a .n / 60000) (a .n % 60000) in
+    let text = shortText (a .n / perMinute) (a .n % perMinute) in
     let bytes = ap₂ _++_ (two-stored (n .result) (n .ensures .0) (k .before .text-of .ensures) .1 ∙ n .ensures .1) (c .before .before .before .last-byte .ensures)
     ∙ sym (part-two (3 * m .i) 2 1 text) in
     let stored = c .before .before .store .ensures ∙ ap (λ x. filled (3 * m .i) x (m .out)) bytes in (
@@ -67,7 +68,7 @@ returns c =
     let l = c .before .loop in
     let s = c .before .before .before in
     let a = s .args in
-    all-placed 3 0 (shortText (a .n / 60000) (a .n % 60000)) (a .out .now) (l .inv .1) (omega arith) {count = 12} (omega (arith, l .inv .0, c .loop-test .left))
+    all-placed 3 0 (shortText (a .n / perMinute) (a .n % perMinute)) (a .out .now) (l .inv .1) (omega arith) {count = 12} (omega (arith, l .inv .0, c .loop-test .left))
     ∙ ap (λ text. filled 0 text (a .out .now)) (short-text (a .n) (s .pre .0))
 
 pub put-spec : {M : Type 1} → statement M
