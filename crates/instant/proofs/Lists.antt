@@ -1,9 +1,8 @@
 -- The first bad instant of a list, what the tests of an index decide, and a list filled from the front.
 use Prim.Native.Nat.{ℕ, zero, suc, _+_, _≤_, _<_}
-use mathlib.Core.Path.{_≡_, refl, sym, ap, _∙_}
-use mathlib.Core.Bool.{Bool, true, false, cond}
+use mathlib.Core.Path.{_≡_, refl, sym, ap, ap₂, _∙_}
+use mathlib.Core.Bool.{Bool, true, false, cond, Bool·beq}
 use mathlib.Core.List.{List, [], _∷_, _++_, map, append-nil}
-use native.Mathlib.Decide.{decLt}
 use native.Mathlib.Nat.{zero-add}
 use native.Mathlib.Numerals.{add-one}
 use native.Mathlib.Omega.{arith}
@@ -12,8 +11,7 @@ use lib.ListN.{length, getD, take, set, drop-of-length-le}
 use lib.Seq.{paste, paste-suc, take-all}
 use borrow.Author.Tests.{eq-eqb, ne-eqb, lt-ltb, le-ltb}
 use Rattle.refusal.specs.Outcome.{Outcome, value, refused, refusedAt, afterCall}
-use Rattle.numbers.specs.Range.{FirstPlace}
-use Rattle.numbers.proofs.Bools.{no-both}
+use Rattle.numbers.specs.Range.{firstPlace}
 use Rattle.instant.specs.Units.{firstInstant, lastInstant}
 use Rattle.instant.specs.Instant.{dayOf}
 use Rattle.instant.specs.Answers.{badInstant, firstBad, firstFall, indexDaysAnswer, indexDays}
@@ -65,16 +63,14 @@ bad-exactly (instant ∷ s) (suc p) f =
     rw (f .first 0 (omega arith)) (ap suc (bad-exactly s p rest))
 
 -- the place that the code looks for
-pub bad-place : (s : List ℤ) (p : ℕ) → FirstPlace firstInstant lastInstant true s p → p ≡ firstBad s
-bad-place s p f = go (decLt p (length s))
+pub bad-place : (s : List ℤ) → firstPlace firstInstant lastInstant true s ≡ firstBad s
+unfolding firstPlace firstBad
+bad-place [] = refl
+bad-place (instant ∷ s) = ap₂ (λ t n. cond t 0 (suc n)) (same (badInstant instant)) (bad-place s)
   where
-    none : length s ≤ p → Dec (firstBad s < length s) → p ≡ firstBad s
-    none h (yes l) = let b = bad-first s l in no-both _ (b .bad) (f .before (firstBad s) (omega (arith, f .within)))
-    none h (no l) = omega (arith, f .within, bad-le s)
-
-    go : Dec (p < length s) → p ≡ firstBad s
-    go (yes l) = sym (bad-exactly s p (record { in-list = l; bad = f .there l; first = f .before }))
-    go (no l) = none (omega arith) (decLt (firstBad s) (length s))
+    same : (t : Bool) → Bool·beq t true ≡ t
+    same true = refl
+    same false = refl
 
 -- what the tests of the index decide
 module _ (instants days : List ℤ) where

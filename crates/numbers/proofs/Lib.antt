@@ -5,4 +5,5 @@ pub mod Machine
 pub mod Mended
 pub mod Quotients
 pub mod Between
+pub mod Places
 pub mod Based

@@ -1,11 +1,10 @@
 -- Ranges of whole numbers, both ends included.
-use Prim.Native.Nat.{ℕ, _≤_, _<_}
+use Prim.Native.Nat.{ℕ, suc, _≤_}
 use mathlib.Core.Path.{_≡_}
-use mathlib.Core.Bool.{Bool, false, not, _||_}
-use mathlib.Core.List.{List}
+use mathlib.Core.Bool.{Bool, false, cond, _||_, Bool·beq}
+use mathlib.Core.List.{List, [], _∷_}
 use lib.Dec.{eqb}
 use lib.IntN.{ℤ, pos, negsuc, natAbs, _-ℤ_}
-use lib.ListN.{length, getD}
 use lib.Signed.{ltZ}
 
 -- z lies outside first..last
@@ -24,10 +23,9 @@ eqZ (negsuc a) (pos b) = false
 eqZ (negsuc a) (negsuc b) = eqb a b
 
 -- the first place of a list whose number lies outside first..last, or not outside, as t says; the length where there is none
-pub record FirstPlace (first last : ℤ) (t : Bool) (list : List ℤ) (place : ℕ) : Type 0 where
-  pub within : place ≤ length list
-  pub before : (k : ℕ) → k < place → outside first last (getD list k (pos 0)) ≡ not t
-  pub there : place < length list → outside first last (getD list place (pos 0)) ≡ t
+unfoldable pub firstPlace : (first last : ℤ) (t : Bool) → List ℤ → ℕ
+firstPlace first last t [] = 0
+firstPlace first last t (z ∷ zs) = cond (Bool·beq (outside first last z) t) 0 (suc (firstPlace first last t zs))
 
 -- a natural number in first..last
 pub record Within (first last : ℕ) (z : ℤ) : Type 0 where

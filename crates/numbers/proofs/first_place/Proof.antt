@@ -10,7 +10,8 @@ use mir.Syntax.{w64}
 use mir.Val.{SFits, toZ}
 use borrow.Author.Count.{below-more}
 use borrow.Author.Needs.{needs}
-use Rattle.numbers.specs.Range.{outside}
+use Rattle.numbers.specs.Range.{outside, firstPlace}
+use Rattle.numbers.proofs.Places.{FirstPlace, first-place-is, only-place}
 use Rattle.numbers.proofs.Bools.{beq-true, beq-false}
 use Rattle.numbers.proofs.Machine.{read, answered}
 use Rattle.numbers.proofs.first_place.Statement.{statement}
@@ -31,6 +32,11 @@ module _ {first last : ℤ} (f : SFits w64 first) (g : SFits w64 last) where
   as-asked : {t : Bool} (z : ℤ) → outside (read first) (read last) z ≡ t → outside first last z ≡ t
   as-asked z e = sym (ap₂ (λ a b. outside a b z) (toZ-ofZ f) (toZ-ofZ g)) ∙ e
 
+-- a place of which all this is so is the one that is asked for
+one-place : (s : tie.Start Inv-loop μ-loop) {place : ℕ} → FirstPlace (s .args .first) (s .args .last) (s .args .wanted) (s .args .list .now) place →
+    (place ≡ firstPlace (s .args .first) (s .args .last) (s .args .wanted) (s .args .list .now)) × (place ≤ length (s .args .list .now))
+one-place s f = (only-place _ _ _ (s .args .list .now) f (first-place-is _ _ _ (s .args .list .now)), f .within)
+
 returns : tie.Need-returns Inv-loop μ-loop
 returns c =
     let l = c .before .before .before .before .loop in
@@ -38,11 +44,11 @@ returns c =
     let list = s .args .list .now in
     let f : SFits w64 (getD list (l .place) (pos 0)) = search needs in
     let here = answered (read (s .args .first)) (read (s .args .last)) f (c .before .outside .ensures) (beq-true _ _ (c .if1 .taken)) in
-    record {
+    one-place s (record {
       within = l .inv .0;
       before = λ k m. as-asked (s .fits .first) (s .fits .last) (getD list k (pos 0)) (l .inv .1 k m);
       there = λ h. as-asked (s .fits .first) (s .fits .last) (getD list (l .place) (pos 0)) here;
-    }
+    })
 
 loop-again : tie.Need-loop-again Inv-loop μ-loop
 loop-again c =
@@ -57,11 +63,11 @@ returns-2 : tie.Need-returns-2 Inv-loop μ-loop
 returns-2 c =
     let l = c .before .loop in
     let s = c .before .before in
-    record {
+    one-place s (record {
       within = l .inv .0;
       before = λ k m. as-asked (s .fits .first) (s .fits .last) (getD (s .args .list .now) k (pos 0)) (l .inv .1 k m);
       there = λ h. absurd (omega arith);
-    }
+    })
 
 pub first-place-spec : {M : Type 1} → statement M
 first-place-spec =

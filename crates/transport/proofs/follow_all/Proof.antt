@@ -1,14 +1,14 @@
 -- From the first value that is taken on, or from the position handed in.
-use Prim.Native.Nat.{_+_, _<_}
-use mathlib.Core.Path.{_≡_, sym, ap, _∙_}
+use Prim.Native.Nat.{_+_, _<_, ℕ}
+use mathlib.Core.Path.{_≡_, sym, ap, _∙_, subst}
 use native.Mathlib.Omega.{arith}
-use lib.IntN.{pos, natAbs}
+use lib.IntN.{pos, natAbs, ℤ}
 use lib.ListN.{length, getD}
 use mir.Facts.{toZ-ofZ}
 use mir.Syntax.{w64}
 use mir.Val.{SFits}
 use borrow.Author.Needs.{needs}
-use Rattle.numbers.specs.Range.{Within}
+use Rattle.numbers.specs.Range.{Within, firstPlace}
 use Rattle.numbers.proofs.Between.{natural-within, cast-within, read-high}
 use Rattle.numbers.proofs.Machine.{answered}
 use Rattle.transport.specs.Wraps.{lastValue, lastPosition}
@@ -16,6 +16,9 @@ use Rattle.transport.specs.Answers.{soFar, followAllAnswer}
 use Rattle.transport.specs.Batches.{goingOn}
 use Rattle.transport.specs.declared.Clock.the-variants.{Nothing, At}
 use Rattle.transport.proofs.Answered.{first-value, taken, read-is, again, at-end, nothing-heard, from-start, none-followed}
+use Rattle.numbers.proofs.Places.{FirstPlace, first-place-is}
+use mathlib.Core.Bool.{false}
+use mathlib.Core.List.{List}
 use Rattle.transport.proofs.follow_all.Statement.{statement}
 use Rattle.transport.proofs.follow_all.Tie as tie
 
@@ -25,13 +28,18 @@ enum-told c = search needs
 first-place-requires : tie.Need-first-place-requires
 first-place-requires c κs = search needs
 
+-- what the place says, by which the first value that is taken is found
+found : (values : List ℤ) {place : ℕ} → place ≡ firstPlace (pos 0) lastValue false values → FirstPlace (pos 0) lastValue false values place
+found values e = subst (FirstPlace (pos 0) lastValue false values) (sym e) (first-place-is (pos 0) lastValue false values)
+
 returns : tie.Need-returns
 returns c =
     let s = c .before .before .before .before .args in
     let values = s .values .now in
     let t = c .before .first-place in
-    let whole : t .result ≡ length values = omega arith in
-    ap (soFar Nothing) (sym whole) ∙ sym (at-end values (t .result) Nothing (t .result) (omega arith)) ∙ nothing-heard values (t .result) (t .ensures .within) (t .ensures .before)
+    let p = found values (t .ensures .0) in
+    let whole : t .result ≡ length values = omega (arith, p .within) in
+    ap (soFar Nothing) (sym whole) ∙ sym (at-end values (t .result) Nothing (t .result) (omega arith)) ∙ nothing-heard values (t .result) (p .within) (p .before)
     ∙ from-start Nothing values ∙ ap (λ clock. followAllAnswer clock values) (sym (c .before .before .enum-told .given .1))
 
 mul-run : tie.Need-mul-run
@@ -46,8 +54,10 @@ there :
     Within 0 (natAbs lastValue) (getD (c .before .before .before .before .before .args .values .now) (t .result) (pos 0))
 there c =
     let t = c .before .before .first-place in
-    let l : t .result < length (c .before .before .before .before .before .args .values .now) = omega (arith, t .ensures .within) in
-    natural-within 0 lastValue _ (t .ensures .there l)
+    let values = c .before .before .before .before .before .args .values .now in
+    let p = found values (t .ensures .0) in
+    let l : t .result < length values = omega (arith, p .within) in
+    natural-within 0 lastValue _ (p .there l)
 
 cast-run : tie.Need-cast-run
 cast-run c = cast-within (search needs) (there c)
@@ -96,10 +106,11 @@ returns-3 c =
     let i = t .result in
     let heard = getD values i (pos 0) in
     let f : SFits w64 heard = search needs in
-    let l : i < length values = omega (arith, t .ensures .within) in
-    let h = t .ensures .there l in
+    let p = found values (t .ensures .0) in
+    let l : i < length values = omega (arith, p .within) in
+    let h = p .there l in
     c .run .ensures ∙ ap (λ p. goingOn (At p) i (i + 1) values) (read-is f (natural-within 0 lastValue heard h))
-    ∙ again values i Nothing i l (taken Nothing heard (first-value heard h) i) ∙ nothing-heard values i (t .ensures .within) (t .ensures .before)
+    ∙ again values i Nothing i l (taken Nothing heard (first-value heard h) i) ∙ nothing-heard values i (p .within) (p .before)
     ∙ from-start Nothing values ∙ ap (λ clock. followAllAnswer clock values) (sym (c .before .before .before .before .enum-told .given .1))
 
 returns-4 : tie.Need-returns-4
