@@ -1,5 +1,5 @@
-// Signed numbers: the test of a range; the floored quotient and remainder as definitions (specs/); and the laws by which a
-// tested i64 becomes a natural number and comes back (proofs/).
+// Signed numbers: the test of a range, of one number and along a list; the floored quotient and remainder as definitions (specs/); and
+// the laws by which a tested i64 becomes a natural number and comes back (proofs/).
 //
 //     outside(first, last, x)                  whether x lies outside first..last, both ends included
 //     first_place(first, last, wanted, list)   the first place whose number lies outside, or not, or the length
