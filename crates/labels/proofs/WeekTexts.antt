@@ -1,16 +1,16 @@
 -- Week labels: what the code writes is the label, and what it reads are the label's numbers.
-use Prim.Native.Nat.{ℕ, _+_, _-_, _*_, _/_, _%_, _≤_, _<_, _^_}
+use Prim.Native.Nat.{ℕ, _+_, _-_, _*_, _/_, _%_, _<_, _^_}
 use mathlib.Core.Path.{_≡_, refl, sym, ap, ap₂, _∙_, subst}
 use mathlib.Core.Bool.{Bool, false, cond, _&&_}
 use mathlib.Core.List.{List, [], _∷_, _++_}
 use native.Mathlib.Omega.{arith}
-use lib.IntN.{ℤ, pos, natAbs}
+use lib.IntN.{ℤ, pos}
 use lib.ListN.{length, take, drop, length-drop}
 use lib.Seq.{take-all, drop-cons}
 use Rattle.refusal.specs.Outcome.{value, refused}
 use Rattle.refusal.proofs.Outcomes.{passes, same-value}
 use Rattle.numbers.specs.Range.{outside}
-use Rattle.numbers.proofs.Between.{natural-within, inside-pos}
+use Rattle.numbers.proofs.Integers.{wider}
 use Rattle.calendar.specs.Range.{firstCount, lastCount}
 use Rattle.week.specs.declared.WeekDate.{WeekDate}
 use Rattle.week.specs.Week.{weekDateOf}
@@ -45,18 +45,13 @@ week-filled year week weekday hy hd before {one} {two} e f =
     filled-then 0 a (dash ∷ digits weekday 1) before e′ refl (f ∙ ap (λ d. filled 8 (dash ∷ d ∷ []) one) d)
 
 -- week and weekday of a day in the range have room in it
-room : (count k : ℕ) (z : ℤ) → outside (pos 1) (pos k) z ≡ false → k ≤ 10 ^ count - 1 → HasRoom count z
-room count k z h l =
-    let n = natural-within 1 (pos k) z h in
-    ap (outside (pos 0) (pos (10 ^ count - 1))) (n .is) ∙ inside-pos 0 (10 ^ count - 1) (natAbs z) (omega arith) (omega (arith, n .high))
-
 pub week-room : (days : ℤ) (d : WeekDate) → value d ≡ weekAnswer days → HasRoom 2 (d .week) × HasRoom 1 (d .weekday)
 unfolding weekAnswer
 week-room days d e =
     let p = passes (outside firstCount lastCount days) 4 (value (weekDateOf days)) e in
     let r = week-date-is-right days (p .0) in
     subst (λ (d : WeekDate). HasRoom 2 (d .week) × HasRoom 1 (d .weekday)) (sym (same-value (p .1)))
-    (room 2 53 (weekDateOf days .week) (r .0) (omega arith), room 1 7 (weekDateOf days .weekday) (r .1) (omega arith))
+    (wider (pos 1) (pos 53) (pos 0) (pos 99) (weekDateOf days .week) refl refl (r .0), wider (pos 1) (pos 7) (pos 0) (pos 9) (weekDateOf days .weekday) refl refl (r .1))
 
 -- ---- read
 

@@ -1,7 +1,8 @@
 -- A number in a range, counted from a base that is not above its first.
 use Prim.Native.Nat.{_≤_, _<_, _^_}
-use mathlib.Core.Path.{_≡_, sym, ap₂, _∙_}
+use mathlib.Core.Path.{_≡_, sym, ap, ap₂, _∙_}
 use mathlib.Core.Bool.{false}
+use native.Mathlib.Omega.{arith}
 use lib.Dec.{T}
 use lib.IntN.{ℤ, pos, natAbs, _+ℤ_, _-ℤ_}
 use lib.Signed.{ltZ, nonNeg}
@@ -40,3 +41,11 @@ module _ (base first last : ℤ) (from-base : ltZ first base ≡ false) (some : 
 
     pub cast-is : natAbs (read (read z -ℤ base)) ≡ since base z
     cast-is = from-first-is base last some near fits low high
+
+    -- what a count from the base says, and what a year does
+    pub counted : (natAbs (read (read z -ℤ base)) ≡ since base z) × (natAbs (read (read z -ℤ base)) ≤ since base last)
+    counted = (cast-is, omega (arith, cast-is, to))
+
+    pub numbered : (base +ℤ pos (natAbs (read (read z -ℤ base))) ≡ z)
+        × ((since base first ≤ natAbs (read (read z -ℤ base))) × (natAbs (read (read z -ℤ base)) ≤ since base last))
+    numbered = (ap (λ n. base +ℤ pos n) cast-is ∙ is, (omega (arith, cast-is, from), counted .1))

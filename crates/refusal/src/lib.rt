@@ -15,7 +15,7 @@ pub enum Refusal {
     DayOutOfRange,
     // 4: day count, instant, shifted date or week date outside the range
     OutOfRange,
-    // 5: hour, minute, second or millisecond outside its limits
+    // 5: hour, minute, second or its fraction outside its limits
     TimeOutOfRange,
     // 6: position outside its range
     PositionOutOfRange,

@@ -9,21 +9,6 @@ use borrow.Author.Needs.{needs}
 use Rattle.labels.proofs.clock.put.Statement.{statement}
 use Rattle.labels.proofs.clock.put.Tie as tie
 
-three-pairs-requires : tie.Need-three-pairs-requires
-three-pairs-requires c κs = search needs
-
-add-store : tie.Need-add-store
-add-store c = search needs
-
-cast-store : tie.Need-cast-store
-cast-store c = search needs
-
-store-requires : tie.Need-store-requires
-store-requires c κs = search needs
-
-same-length : tie.Need-same-length
-same-length c = search needs
-
 returns : tie.Need-returns
 returns c =
     let s = c .before .before .before .before .before .before in
@@ -35,4 +20,4 @@ returns c =
 pub put-spec : {M : Type 1} → statement M
 put-spec =
     tie.close
-    (tie.spec three-pairs-requires add-store cast-store store-requires same-length returns)
+    (tie.spec (λ c κs. search needs) (λ c. search needs) (λ c. search needs) (λ c κs. search needs) (λ c. search needs) returns)

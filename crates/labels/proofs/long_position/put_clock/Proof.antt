@@ -10,21 +10,6 @@ use borrow.Author.Needs.{needs}
 use Rattle.labels.proofs.long_position.put_clock.Statement.{statement}
 use Rattle.labels.proofs.long_position.put_clock.Tie as tie
 
-store-requires : tie.Need-store-requires
-store-requires c κs = search needs
-
-cast-rest : tie.Need-cast-rest
-cast-rest c = search needs
-
-add-put : tie.Need-add-put
-add-put c = search needs
-
-put-requires : tie.Need-put-requires
-put-requires c κs = search needs
-
-same-length : tie.Need-same-length
-same-length c = search needs
-
 returns : tie.Need-returns
 returns c =
     let a = c .before .before .before .before .before .before .before .before .before .args in
@@ -34,4 +19,4 @@ returns c =
 
 pub put-clock-spec : {M : Type 1} → statement M
 put-clock-spec =
-    tie.close (tie.spec store-requires cast-rest add-put put-requires same-length returns)
+    tie.close (tie.spec (λ c κs. search needs) (λ c. search needs) (λ c. search needs) (λ c κs. search needs) (λ c. search needs) returns)

@@ -6,35 +6,11 @@ use borrow.Author.Needs.{needs}
 use Rattle.labels.proofs.long_position.put_hours.Statement.{statement}
 use Rattle.labels.proofs.long_position.put_hours.Tie as tie
 
-four-requires : tie.Need-four-requires
-four-requires c κs = search needs
-
-mul-text : tie.Need-mul-text
-mul-text c = search needs
-
-add-text : tie.Need-add-text
-add-text c = search needs
-
-cast-text : tie.Need-cast-text
-cast-text c = search needs
-
 add-text-2 : tie.Need-add-text-2
 add-text-2 c = omega (arith, four-below (c .before .before .args .hours % 10000) (c .four .ensures))
 
 sub-store : tie.Need-sub-store
 sub-store c = omega (arith, two-to-five (c .before .before .before .args .hours))
-
-mul-store : tie.Need-mul-store
-mul-store c = search needs
-
-shr-store : tie.Need-shr-store
-shr-store c = search needs
-
-store-requires : tie.Need-store-requires
-store-requires c κs = search needs
-
-same-length : tie.Need-same-length
-same-length c = search needs
 
 returns : tie.Need-returns
 returns c =
@@ -45,14 +21,14 @@ pub put-hours-spec : {M : Type 1} → statement M
 put-hours-spec =
     tie.close
     (tie.spec
-    four-requires
-    mul-text
-    add-text
-    cast-text
+    (λ c κs. search needs)
+    (λ c. search needs)
+    (λ c. search needs)
+    (λ c. search needs)
     add-text-2
     sub-store
-    mul-store
-    shr-store
-    store-requires
-    same-length
+    (λ c. search needs)
+    (λ c. search needs)
+    (λ c κs. search needs)
+    (λ c. search needs)
     returns)

@@ -6,28 +6,10 @@ use borrow.Author.Needs.{needs}
 use Rattle.labels.proofs.long_position.write.Statement.{statement}
 use Rattle.labels.proofs.long_position.write.Tie as tie
 
-cast-hours : tie.Need-cast-hours
-cast-hours c = search needs
-
-hour-digits-requires : tie.Need-hour-digits-requires
-hour-digits-requires c κs = search needs
-
-add-length : tie.Need-add-length
-add-length c = search needs
-
 returns : tie.Need-returns
 returns c =
     let s = c .before .before .before in
     no-room (positionText (s .args .n)) (s .args .out .now) (omega (arith, length-position (s .args .n), c .before .hour-digits .ensures .0))
-
-put-hours-requires : tie.Need-put-hours-requires
-put-hours-requires c κs = search needs
-
-put-clock-requires : tie.Need-put-clock-requires
-put-clock-requires c κs = search needs
-
-same-length : tie.Need-same-length
-same-length c = search needs
 
 returns-2 : tie.Need-returns-2
 returns-2 c =
@@ -42,11 +24,11 @@ pub write-spec : {M : Type 1} → statement M
 write-spec =
     tie.close
     (tie.spec
-    cast-hours
-    hour-digits-requires
-    add-length
+    (λ c. search needs)
+    (λ c κs. search needs)
+    (λ c. search needs)
     returns
-    put-hours-requires
-    put-clock-requires
-    same-length
+    (λ c κs. search needs)
+    (λ c κs. search needs)
+    (λ c. search needs)
     returns-2)

@@ -12,18 +12,6 @@ use Rattle.labels.proofs.short_position.last_byte.Tie as tie
 abbrev end-of : tie.Start → ℕ → List ℕ
 end-of s i = partOf (3 * i + 2) 1 (shortText (s .args .minutes) (s .args .rest))
 
-last-digit-requires : tie.Need-last-digit-requires
-last-digit-requires c κs = search needs
-
-cast-result : tie.Need-cast-result
-cast-result c = search needs
-
-add-result : tie.Need-add-result
-add-result c = search needs
-
-cast-result-2 : tie.Need-cast-result-2
-cast-result-2 c = search needs
-
 returns : tie.Need-returns
 returns c = sym (ap (end-of (c .before)) (c .match .keys1))
 
@@ -43,10 +31,10 @@ pub last-byte-spec : {M : Type 1} → statement M
 last-byte-spec =
     tie.close
     (tie.spec
-    last-digit-requires
-    cast-result
-    add-result
-    cast-result-2
+    (λ c κs. search needs)
+    (λ c. search needs)
+    (λ c. search needs)
+    (λ c. search needs)
     returns
     returns-2
     returns-3

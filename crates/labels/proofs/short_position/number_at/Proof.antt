@@ -13,18 +13,6 @@ use Rattle.labels.proofs.short_position.number_at.Tie as tie
 abbrev front : tie.Start → ℕ → List ℕ
 front s i = partOf (3 * i) 2 (shortText (s .args .minutes) (s .args .rest))
 
-hours-requires : tie.Need-hours-requires
-hours-requires c κs = search needs
-
-minute-requires : tie.Need-minute-requires
-minute-requires c κs = search needs
-
-second-requires : tie.Need-second-requires
-second-requires c κs = search needs
-
-hundredths-requires : tie.Need-hundredths-requires
-hundredths-requires c κs = search needs
-
 returns : tie.Need-returns
 returns c =
     let s = c .before .before in
@@ -50,10 +38,10 @@ pub number-at-spec : {M : Type 1} → statement M
 number-at-spec =
     tie.close
     (tie.spec
-    hours-requires
-    minute-requires
-    second-requires
-    hundredths-requires
+    (λ c κs. search needs)
+    (λ c κs. search needs)
+    (λ c κs. search needs)
+    (λ c κs. search needs)
     returns
     returns-2
     returns-3

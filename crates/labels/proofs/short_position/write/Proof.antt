@@ -11,12 +11,6 @@ returns c =
     let s = c .before .before in
     no-room (positionText (s .args .n)) (s .args .out .now) (omega (arith, short-length (s .args .n) (s .pre), c .if1 .taken))
 
-put-requires : tie.Need-put-requires
-put-requires c κs = search needs
-
-same-length : tie.Need-same-length
-same-length c = search needs
-
 returns-2 : tie.Need-returns-2
 returns-2 c =
     let s = c .before .before .before .before .before .before in
@@ -24,4 +18,4 @@ returns-2 c =
     all-written (positionText (s .args .n)) (s .args .out .now) (omega (arith, l, c .before .before .before .before .if1 .left)) (omega (arith, l)) (c .before .before .put .ensures)
 
 pub write-spec : {M : Type 1} → statement M
-write-spec = tie.close (tie.spec returns put-requires same-length returns-2)
+write-spec = tie.close (tie.spec returns (λ c κs. search needs) (λ c. search needs) returns-2)

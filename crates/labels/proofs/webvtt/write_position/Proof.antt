@@ -18,9 +18,6 @@ is-short c =
     let s = c .before .before .before in
     answered (pos 0) lastShort (s .fits .position) (c .before .outside .ensures) (not-true _ (c .if1 .taken))
 
-outside-requires : tie.Need-outside-requires
-outside-requires c κs = search needs
-
 cast-write : tie.Need-cast-write
 cast-write c =
     let s = c .before .before .before in
@@ -29,17 +26,11 @@ cast-write c =
 write-requires : tie.Need-write-requires
 write-requires c κs = short-below (c .before .before .before .before .fits .position) (is-short (c .before))
 
-same-length : tie.Need-same-length
-same-length c = search needs
-
 returns : tie.Need-returns
 returns c =
     let t = c .before .before .before .before in
     let s = t .before .before .before in
     renamed (s .args .out .now) (labelled (s .fits .position) (short-in-range (s .fits .position) (is-short t))) (c .before .before .write .ensures)
-
-outside-requires-2 : tie.Need-outside-requires-2
-outside-requires-2 c κs = search needs
 
 returns-2 : tie.Need-returns-2
 returns-2 c =
@@ -64,9 +55,6 @@ write-requires-2 c κs =
     let long = answered (pos 0) lastShort (s .fits .position) (e .before .before .before .outside .ensures) (not-false _ (e .before .before .if1 .left)) in
     (long-above (s .fits .position) long (in-the-range e), in-range (s .fits .position) (in-the-range e))
 
-same-length-2 : tie.Need-same-length-2
-same-length-2 c = search needs
-
 returns-3 : tie.Need-returns-3
 returns-3 c =
     let e = c .before .before .before .before in
@@ -77,14 +65,14 @@ pub write-position-spec : {M : Type 1} → statement M
 write-position-spec =
     tie.close
     (tie.spec
-    outside-requires
+    (λ c κs. search needs)
     cast-write
     write-requires
-    same-length
+    (λ c. search needs)
     returns
-    outside-requires-2
+    (λ c κs. search needs)
     returns-2
     cast-write-2
     write-requires-2
-    same-length-2
+    (λ c. search needs)
     returns-3)
