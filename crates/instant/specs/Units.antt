@@ -24,9 +24,9 @@ firstInstant = firstCount *ℤ pos perDay
 abbrev pub lastInstant : ℤ
 lastInstant = lastCount *ℤ pos perDay +ℤ pos (perDay - 1)
 
--- these are document 01's numbers; `negsuc n` is -(n + 1)
-pub first-is : firstInstant ≡ negsuc 62167219199999
+-- these are the numbers of request Eight's days; `negsuc n` is -(n + 1)
+pub first-is : firstInstant ≡ negsuc 1071989683199999
 first-is = refl
 
-pub last-is : lastInstant ≡ pos 253402300799999
+pub last-is : lastInstant ≡ pos 947655244799999
 last-is = refl

@@ -1,4 +1,4 @@
--- The fields of an instant have room in its label, and what the code writes of them is the label.
+-- The fields of an instant but the year have room in its label, and what the code writes of them is the label.
 use Prim.Native.Nat.{ℕ, _+_, _-_, _≤_, _<_, _^_}
 use mathlib.Core.Path.{_≡_, refl, sym, ap, _∙_}
 use mathlib.Core.Bool.{false}
@@ -13,7 +13,6 @@ use Rattle.refusal.specs.Outcome.{value}
 use Rattle.numbers.specs.Range.{outside, Within}
 use Rattle.numbers.proofs.Machine.{read}
 use Rattle.numbers.proofs.Between.{inside-pos, abs-read, cast-small, read-below}
-use Rattle.calendar.specs.Range.{firstYear, lastYear}
 use Rattle.calendar.specs.Gregorian.{dateOf}
 use Rattle.calendar.specs.Answers.{daysAnswer}
 use Rattle.calendar.specs.declared.Date.{Date}
@@ -39,10 +38,6 @@ use Rattle.labels.proofs.Filled.{filled-then}
 room-in : {k : ℕ} (count : ℕ) {z : ℤ} → Within 0 k z → k ≤ 10 ^ count - 1 → HasRoom count z
 room-in count {z} w h = let s = w .high in ap (outside (pos 0) (pos (10 ^ count - 1))) (w .is) ∙ inside-pos 0 (10 ^ count - 1) (natAbs z) (omega arith) (omega arith)
 
--- a year of the range has four digits
-year-room : (year : ℤ) → outside firstYear lastYear year ≡ false → HasRoom 4 year
-year-room year h = h
-
 joined-narrow :
     (year month day hour minute second fraction instant : ℤ) → joinAnswer year month day hour minute second fraction ≡ value instant →
     NarrowFields (record { year = year; month = month; day = day; hour = hour; minute = minute; second = second; millisecond = fraction })
@@ -53,7 +48,6 @@ joined-narrow year month day hour minute second fraction instant e =
     let n = calendar.natural (dateOf year month day) v in
     let c = times.natural hour minute second fraction (a .not-bad) in
     record {
-      year-within = year-room year (v .year-inside);
       month-within = ap (λ (d : Date). outside (pos 0) (pos 99) (d .month)) (n .is) ∙ inside-pos 0 99 (n .m) (omega arith) (omega (arith, n .is-valid .month-high));
       day-within = ap (λ (d : Date). outside (pos 0) (pos 99) (d .day)) (n .is) ∙ inside-pos 0 99 (n .d) (omega arith) (omega (arith, calendar.day-small (n .y) (n .m) (n .d) (n .is-valid)));
       hour-within = room-in 2 (c .hour-within) (omega arith);
@@ -77,13 +71,13 @@ module _ (count : ℕ) (few : 10 ^ count - 1 < 2 ^ 32) (z : ℤ) (h : HasRoom co
   pub room-abs : natAbs (read z) ≡ natAbs z
   room-abs = abs-read (10 ^ count - 1) few z h
 
-module _ (f : Fields) (n : NarrowFields f) where
+module _ (f : Fields) (year-within : HasRoom 4 (f .year)) (n : NarrowFields f) where
   pub narrow-read :
       Narrow (natAbs (read (f .year))) (natAbs (read (f .month))) (natAbs (read (f .day))) (natAbs (read (f .hour))) (natAbs (read (f .minute)))
       (natAbs (read (f .second))) (natAbs (read (f .millisecond)))
   narrow-read =
       record {
-        year-below = room-below 4 (lit< tt) (f .year) (n .year-within);
+        year-below = room-below 4 (lit< tt) (f .year) year-within;
         month-below = room-below 2 (lit< tt) (f .month) (n .month-within);
         day-below = room-below 2 (lit< tt) (f .day) (n .day-within);
         hour-below = room-below 2 (lit< tt) (f .hour) (n .hour-within);
@@ -96,7 +90,7 @@ module _ (f : Fields) (n : NarrowFields f) where
       numbersText (natAbs (read (f .year))) (natAbs (read (f .month))) (natAbs (read (f .day))) (natAbs (read (f .hour))) (natAbs (read (f .minute)))
       (natAbs (read (f .second))) (natAbs (read (f .millisecond))) ≡ labelText f
   text-read =
-      let y = room-abs 4 (lit< tt) (f .year) (n .year-within) in
+      let y = room-abs 4 (lit< tt) (f .year) year-within in
       let o = room-abs 2 (lit< tt) (f .month) (n .month-within) in
       let d = room-abs 2 (lit< tt) (f .day) (n .day-within) in
       let h = room-abs 2 (lit< tt) (f .hour) (n .hour-within) in

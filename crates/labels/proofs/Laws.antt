@@ -9,22 +9,22 @@ use native.Mathlib.Omega.{arith}
 use lib.Dec.{ltb, lit<}
 use lib.IntN.{ℤ, pos, natAbs}
 use lib.ListN.{length, drop}
-use Rattle.refusal.specs.Outcome.{Outcome, mapValue, value, refused, refusedAt}
+use Rattle.refusal.specs.Outcome.{Outcome, value, refused, refusedAt, andThen}
 use Rattle.numbers.specs.Range.{outside}
 use Rattle.numbers.proofs.Bools.{no-both}
 use Rattle.numbers.proofs.Between.{natural-within}
 use Rattle.numbers.proofs.Integers.{wider}
-use Rattle.refusal.proofs.Outcomes.{clash, same-value}
+use Rattle.refusal.proofs.Outcomes.{clash, passes, same-value}
 use Rattle.calendar.specs.Range.{firstYear, lastYear}
 use Rattle.calendar.specs.Gregorian.{monthLength, dateOf}
 use Rattle.calendar.specs.Answers.{ofDate}
-use Rattle.instant.specs.Instant.{fieldsOf, timeOfFields, instantAt}
+use Rattle.instant.specs.Instant.{fieldsWith, fieldsOf, timeOfFields, instantAt}
 use Rattle.instant.specs.Answers.{badInstant, badTime, splitAnswer, joinAnswer}
 use Rattle.instant.specs.declared.Fields.{Fields}
 use Rattle.instant.proofs.Laws.{split-join, join-split}
 use Rattle.labels.specs.Digits.{digits, number, numberAt, fits}
 use Rattle.labels.specs.Years.{firstLabelYear, lastLabelYear}
-use Rattle.labels.specs.Rfc3339.{labelLength, decimals, dateText, timeText, numbersText, dateShape, timeShape, labelText, instantLabel, readFields, readAnswer}
+use Rattle.labels.specs.Rfc3339.{labelLength, decimals, dateText, timeText, numbersText, dateShape, timeShape, labelText, fieldsLabel, instantLabel, readFields, readAnswer}
 use Rattle.labels.specs.Capitals.{inCapitals}
 use Rattle.labels.specs.Parts.{HasRoom, NarrowFields}
 use Rattle.labels.specs.Webvtt.{perHour, positionText, positionLabel}
@@ -65,11 +65,11 @@ field-back count z e =
     ap pos (number-digits (natAbs z) count (omega arith)) ∙ sym (w .is)
 
 fields-back :
-    (f : Fields) → NarrowFields f →
+    (f : Fields) → HasRoom 4 (f .year) → NarrowFields f →
     readFields (labelText f) (drop 10 (labelText f)) ≡ joinAnswer (f .year) (f .month) (f .day) (f .hour) (f .minute) (f .second) (f .millisecond)
 unfolding numbersText
-fields-back f n =
-    let y = field-back 4 (f .year) (n .year-within) in
+fields-back f year-within n =
+    let y = field-back 4 (f .year) year-within in
     let o = field-back 2 (f .month) (n .month-within) in
     let d = field-back 2 (f .day) (n .day-within) in
     let h = field-back 2 (f .hour) (n .hour-within) in
@@ -86,24 +86,28 @@ label-fits f =
     (date-fits (natAbs (f .year)) (natAbs (f .month)) (natAbs (f .day)))
     (time-fits decimals (natAbs (f .hour)) (natAbs (f .minute)) (natAbs (f .second)) (natAbs (f .millisecond)))
 
-fields-read : (instant : ℤ) (f : Fields) → splitAnswer instant ≡ value f → readAnswer (labelText f) ≡ value instant
+fields-read :
+    (instant : ℤ) (f : Fields) → splitAnswer instant ≡ value f → outside firstLabelYear lastLabelYear (f .year) ≡ false →
+    readAnswer (labelText f) ≡ value instant
 unfolding readAnswer
-fields-read instant f e =
+fields-read instant f e h =
     ap (λ t. cond t (readFields (labelText f) (drop 10 (labelText f))) (refused 8)) (label-fits f)
-    ∙ fields-back f (fields-narrow instant f e) ∙ split-join instant f e
+    ∙ fields-back f h (fields-narrow instant f e) ∙ split-join instant f e
 
--- the label of an instant in the range is that of its fields
-pub instant-labelled : (instant : ℤ) → badInstant instant ≡ false → instantLabel instant ≡ value (labelText (fieldsOf instant))
+-- the label of an instant in the range is that of its fields, or 1 for a year that has none
+pub instant-labelled : (instant : ℤ) → badInstant instant ≡ false → instantLabel instant ≡ fieldsLabel (fieldsOf instant)
 unfolding instantLabel splitAnswer
-instant-labelled instant h = ap (λ t. mapValue labelText (cond t (refused 4) (value (fieldsOf instant)))) h
+instant-labelled instant h = ap (λ t. andThen (cond t (refused 4) (value (fieldsOf instant))) fieldsLabel) h
 
 -- writing then reading gives the instant back
 pub write-read : (instant : ℤ) (label : List ℕ) → instantLabel instant ≡ value label → readAnswer label ≡ value instant
 unfolding instantLabel
 write-read instant label e = go (splitAnswer instant) refl e
   where
-    go : (o : Outcome Fields) → splitAnswer instant ≡ o → mapValue labelText o ≡ value label → readAnswer label ≡ value instant
-    go (value f) s e = let l : labelText f ≡ label = cc in sym (ap readAnswer l) ∙ fields-read instant f s
+    go : (o : Outcome Fields) → splitAnswer instant ≡ o → andThen o fieldsLabel ≡ value label → readAnswer label ≡ value instant
+    go (value f) s e =
+        let p = passes (outside firstLabelYear lastLabelYear (f .year)) 1 _ (sym e) in
+        ap readAnswer (same-value (p .1)) ∙ fields-read instant f s (p .0)
     go (refused n) s e = clash (cc)
     go (refusedAt n place) s e = clash (cc)
 
@@ -143,15 +147,20 @@ capitals-fields label h =
     sym (ap (λ l. readFields l (drop 10 l)) (label-back label h))
     ∙ (λ i. joinAnswer (pos (y i)) (pos (o i)) (pos (e i)) (pos (t .hour-is i)) (pos (t .minute-is i)) (pos (t .second-is i)) (pos (t .fraction-is i)))
 
+-- four digits are a year that has a label
+label-year-inside : (label : List ℕ) → fits (dateShape ++ timeShape decimals) label ≡ true → outside firstLabelYear lastLabelYear (pos (numberAt 0 4 label)) ≡ false
+label-year-inside label h = label-year (numberAt 0 4 label) (ap (numberAt 0 4) (date-back (timeShape decimals) label h .0))
+
 -- reading an accepted label then writing gives the same bytes, with t and z made capital
 pub read-write : (label : List ℕ) (instant : ℤ) → readAnswer label ≡ value instant → instantLabel instant ≡ value (inCapitals label)
 unfolding instantLabel numbersText
 read-write label instant e =
     let a = read-accepted label instant e in
     let t = drop 10 label in
-    ap (mapValue labelText)
+    ap (λ o. andThen o fieldsLabel)
     (join-split (pos (numberAt 0 4 label)) (pos (numberAt 5 2 label)) (pos (numberAt 8 2 label)) (pos (numberAt 1 2 t)) (pos (numberAt 4 2 t))
     (pos (numberAt 7 2 t)) (pos (numberAt 10 decimals t)) instant (a .1))
+    ∙ ap (λ y. cond y (refused 1) (value (labelText (fieldsWith (pos (numberAt 0 4 label)) (pos (numberAt 5 2 label)) (pos (numberAt 8 2 label)) (pos (numberAt 1 2 t)) (pos (numberAt 4 2 t)) (pos (numberAt 7 2 t)) (pos (numberAt 10 decimals t)))))) (label-year-inside label (a .0))
     ∙ ap value (label-back label (a .0))
 
 -- every instant label has labelLength bytes, and these are 24
@@ -164,11 +173,10 @@ label-bytes = refl
 
 -- ---- the reader's refusals
 
--- four digits are a year of the range
+-- and a year of the range
 year-inside : (label : List ℕ) → fits (dateShape ++ timeShape decimals) label ≡ true → outside firstYear lastYear (pos (numberAt 0 4 label)) ≡ false
 year-inside label h =
-    wider firstLabelYear lastLabelYear firstYear lastYear (pos (numberAt 0 4 label)) refl refl
-    (label-year (numberAt 0 4 label) (ap (numberAt 0 4) (date-back (timeShape decimals) label h .0)))
+    wider firstLabelYear lastLabelYear firstYear lastYear (pos (numberAt 0 4 label)) refl refl (label-year-inside label h)
 
 -- the refusals of fields, one after the other
 by-refusal :

@@ -27,9 +27,8 @@ pub record Narrow (year month day hour minute second fraction : ℕ) : Type 0 wh
   pub second-below : second < 10 ^ 2
   pub fraction-below : fraction < 10 ^ decimals
 
--- fields of an instant that have room in the label
+-- fields of an instant that have room in the label, whatever the year
 pub record NarrowFields (f : Fields) : Type 0 where
-  pub year-within : HasRoom 4 (f .year)
   pub month-within : HasRoom 2 (f .month)
   pub day-within : HasRoom 2 (f .day)
   pub hour-within : HasRoom 2 (f .hour)

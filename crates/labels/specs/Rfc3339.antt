@@ -1,15 +1,17 @@
--- Instant labels, `YYYY-MM-DDTHH:MM:SS.mmmZ`: document 01, "Instant label", read with small letters too: document 02, request Three. The
--- form is that of RFC 3339, section 5.6.
+-- Instant labels, `YYYY-MM-DDTHH:MM:SS.mmmZ`: document 01, "Instant label", read with small letters too, and for the years 0 to 9999 of a
+-- longer calendar: document 02, requests Three and Eight. The form is that of RFC 3339, section 5.6.
 use Prim.Native.Nat.{ℕ, _+_}
 use mathlib.Core.Bool.{cond}
 use mathlib.Core.List.{List, [], _∷_, _++_}
 use lib.IntN.{ℤ, pos, natAbs}
 use lib.ListN.{drop}
-use Rattle.refusal.specs.Outcome.{Outcome, refused, mapValue}
+use Rattle.refusal.specs.Outcome.{Outcome, value, refused, andThen}
+use Rattle.numbers.specs.Range.{outside}
 use Rattle.instant.specs.Answers.{splitAnswer, joinAnswer}
 use Rattle.instant.specs.declared.Fields.{Fields}
 use Rattle.labels.specs.Digits.{digits, numberAt, letterT, letterZ, fits}
 use Rattle.labels.specs.Clock.{colon, clockText}
+use Rattle.labels.specs.Years.{firstLabelYear, lastLabelYear}
 
 -- `-`, the mark beside those of the clock and the letters
 abbrev pub dash : ℕ
@@ -34,15 +36,19 @@ timeText count hour minute second fraction = letterT ∷ digits hour 2 ++ colon 
 unfoldable pub numbersText : (year month day hour minute second fraction : ℕ) → List ℕ
 numbersText year month day hour minute second fraction = dateText year month day ++ timeText decimals hour minute second fraction
 
--- the label of fields that have room in it, as those of an instant in the range have; of others it would have the last digits, and no sign
+-- the text of fields that have room in a label; of others it would have the last digits, and no sign
 abbrev pub labelText : Fields → List ℕ
 labelText f =
     numbersText (natAbs (f .year)) (natAbs (f .month)) (natAbs (f .day)) (natAbs (f .hour)) (natAbs (f .minute)) (natAbs (f .second))
     (natAbs (f .millisecond))
 
--- the label of an instant: that of its fields, or 4 for an instant outside the range
+-- the label of an instant's fields: 1 for a year that has none
+abbrev pub fieldsLabel : Fields → Outcome (List ℕ)
+fieldsLabel f = cond (outside firstLabelYear lastLabelYear (f .year)) (refused 1) (value (labelText f))
+
+-- the label of an instant: 4 for an instant outside the range, then 1
 unfoldable pub instantLabel : (instant : ℤ) → Outcome (List ℕ)
-instantLabel instant = mapValue labelText (splitAnswer instant)
+instantLabel instant = andThen (splitAnswer instant) fieldsLabel
 
 -- the shape of a label is that of zeros: digits where these have digits, and the same marks, of which T and Z may be small
 abbrev pub dateShape : List ℕ

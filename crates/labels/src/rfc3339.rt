@@ -10,6 +10,8 @@ use crate::digits::DASH;
 use crate::digits::POINT;
 use crate::digits::Values;
 use crate::malformed;
+use crate::years::FIRST_LABEL_YEAR;
+use crate::years::LAST_LABEL_YEAR;
 use instant::Fields;
 use instant::FieldsAnswer;
 use instant::units::PER_DAY;
@@ -19,10 +21,10 @@ ghost use mathlib.Core.Path.{_≡_};
 ghost use mathlib.Core.Bool.{true};
 ghost use Prim.Native.Nat.{_+_, _*_, _≤_, _<_};
 ghost use lib.ListN.{length};
-ghost use Rattle.refusal.specs.Outcome.{value, numberOutcome};
+ghost use Rattle.refusal.specs.Outcome.{numberOutcome};
 ghost use Rattle.labels.specs.Written.{writeOutcome, bytesWritten, writtenBuffer};
 ghost use Rattle.labels.specs.Filled.{filled};
-ghost use Rattle.labels.specs.Rfc3339.{labelLength, decimals, numbersText, labelText, instantLabel, readAnswer};
+ghost use Rattle.labels.specs.Rfc3339.{labelLength, decimals, numbersText, fieldsLabel, instantLabel, readAnswer};
 ghost use Rattle.labels.specs.Digits.{hasSmall, fitsOne};
 ghost use Rattle.labels.specs.Words.{ClockValues, Thousandths};
 ghost use Rattle.labels.specs.Parts.{Narrow, NarrowFields, DateDigits, readTime, joinedValues};
@@ -51,7 +53,8 @@ pub const LENGTH: usize = 21 + DECIMALS;
 // The byte at which the time begins.
 const TIME: usize = 10;
 
-// Writes the label of an instant. 4 for an instant outside the range, then 7 for a buffer shorter than the label.
+// Writes the label of an instant. 4 for an instant outside the range, then 1 for a year that has no label, then 7 for a buffer shorter
+// than the label.
 pub fn write_instant(instant: i64, out: &mut [u8]) -> WriteAnswer
     ensures answer { λ r. ⌜ writeOutcome r ≡ bytesWritten (instantLabel instant) (now (out .entry)) ⌝ }
     ensures buffer { λ r. ⌜ now (out .exit) ≡ writtenBuffer (instantLabel instant) (now (out .entry)) ⌝ }
@@ -62,12 +65,15 @@ pub fn write_instant(instant: i64, out: &mut [u8]) -> WriteAnswer
     }
 }
 
-// Writes the label of an instant's fields. 7 for a buffer shorter than the label.
+// Writes the label of an instant's fields. 1 for a year that has none, then 7.
 fn write_fields(f: Fields, out: &mut [u8]) -> WriteAnswer
     requires { ⌜ NarrowFields f ⌝ }
-    ensures answer { λ r. ⌜ writeOutcome r ≡ bytesWritten (value (labelText f)) (now (out .entry)) ⌝ }
-    ensures buffer { λ r. ⌜ now (out .exit) ≡ writtenBuffer (value (labelText f)) (now (out .entry)) ⌝ }
+    ensures answer { λ r. ⌜ writeOutcome r ≡ bytesWritten (fieldsLabel f) (now (out .entry)) ⌝ }
+    ensures buffer { λ r. ⌜ now (out .exit) ≡ writtenBuffer (fieldsLabel f) (now (out .entry)) ⌝ }
 {
+    if numbers::outside(FIRST_LABEL_YEAR, LAST_LABEL_YEAR, f.year) {
+        return WriteAnswer::Refused(Refusal::YearOutOfRange);
+    }
     if out.len() < LENGTH {
         return WriteAnswer::Refused(Refusal::BufferTooShort);
     }

@@ -25,7 +25,7 @@ use Rattle.week.specs.declared.WeekDate.{WeekDate}
 use Rattle.instant.specs.Answers.{badInstant, badTime, firstBad, firstFall, dayAnswer, splitAnswer, joinAnswer, indexDaysAnswer}
 use Rattle.labels.specs.Digits.{fits}
 use Rattle.labels.specs.Written.{bytesWritten}
-use Rattle.labels.specs.Rfc3339.{decimals, dateShape, timeShape, labelText, instantLabel, readAnswer}
+use Rattle.labels.specs.Rfc3339.{decimals, dateShape, timeShape, fieldsLabel, instantLabel, readAnswer}
 use Rattle.labels.specs.Years.{firstLabelYear, lastLabelYear}
 use Rattle.labels.specs.IsoWeek.{weekDateLabel, weekLabel, weekShape, readWeekAnswer}
 use Rattle.labels.specs.Webvtt.{lastPosition, positionLabel}
@@ -173,23 +173,27 @@ written-tells (value text) buffer t = go (ltb (length buffer) (length text))
 written-tells (refused number) buffer t = told (t .exactly)
 written-tells (refusedAt number place) buffer t = told (t .exactly)
 
-map-tells : {A B : Type 0} (f : A → B) (answer : Outcome A) → Tells returnedDone answer → Tells returnedDone (mapValue f answer)
-map-tells f (value a) t = told refl
-map-tells f (refused number) t = told (t .exactly)
-map-tells f (refusedAt number place) t = told (t .exactly)
+-- a call, and then another, tells if both do
+then-tells :
+    {A B : Type 0} (answer : Outcome A) (next : A → Outcome B) → Tells returnedDone answer → ((a : A) → Tells returnedDone (next a)) →
+    Tells returnedDone (andThen answer next)
+then-tells (value a) next t n = n a
+then-tells (refused number) next t n = told (t .exactly)
+then-tells (refusedAt number place) next t n = told (t .exactly)
 
 pub write-instant-tells : (instant : ℤ) (buffer : List ℕ) → Tells returnedCount (bytesWritten (instantLabel instant) buffer)
 unfolding instantLabel
-write-instant-tells instant buffer = written-tells _ buffer (map-tells labelText (splitAnswer instant) (split-tells instant))
+write-instant-tells instant buffer =
+    written-tells _ buffer
+    (then-tells (splitAnswer instant) fieldsLabel (split-tells instant)
+    (λ f. guarded returnedDone (outside firstLabelYear lastLabelYear (f .year)) _ _ (told refl) (told refl)))
 
 pub write-week-tells : (days : ℤ) (buffer : List ℕ) → Tells returnedCount (bytesWritten (weekLabel days) buffer)
 unfolding weekLabel
-write-week-tells days buffer = written-tells _ buffer (go (weekAnswer days) (week-tells days))
-  where
-    go : (answer : Outcome WeekDate) → Tells returnedDone answer → Tells returnedDone (andThen answer weekDateLabel)
-    go (value d) t = guarded returnedDone (outside firstLabelYear lastLabelYear (d .year)) _ _ (told refl) (told refl)
-    go (refused number) t = told (t .exactly)
-    go (refusedAt number place) t = told (t .exactly)
+write-week-tells days buffer =
+    written-tells _ buffer
+    (then-tells (weekAnswer days) weekDateLabel (week-tells days)
+    (λ d. guarded returnedDone (outside firstLabelYear lastLabelYear (d .year)) _ _ (told refl) (told refl)))
 
 pub read-week-tells : (label : List ℕ) → Tells returnedDone (readWeekAnswer label)
 unfolding readWeekAnswer

@@ -1,8 +1,8 @@
 use mathlib.Core.Path.{sym, ap, _∙_}
 use mir.Facts.{toZ-ofZ}
-use Rattle.refusal.specs.Outcome.{mapValue}
+use Rattle.refusal.specs.Outcome.{andThen}
 use Rattle.instant.specs.Answers.{fieldsOutcome, splitAnswer}
-use Rattle.labels.specs.Rfc3339.{labelText, instantLabel}
+use Rattle.labels.specs.Rfc3339.{fieldsLabel, instantLabel}
 use Rattle.labels.proofs.Writing.{renamed, nothing-written}
 use Rattle.labels.proofs.Instants.{fields-narrow}
 use borrow.Author.Needs.{needs}
@@ -34,7 +34,7 @@ returns c =
     let s = c .before .before .before .before .before .before .before .before .before in
     let g = c .before .before .before .before .before .fields .given in
     let e = ap fieldsOutcome (sym (g .1)) ∙ c .before .before .before .before .before .before .before .split-instant .ensures ∙ ap splitAnswer (toZ-ofZ (s .fits .instant)) in
-    renamed (s .args .out .now) (ap (mapValue labelText) e) (c .before .before .write-fields .ensures)
+    renamed (s .args .out .now) (ap (λ o. andThen o fieldsLabel) e) (c .before .before .write-fields .ensures)
 
 returns-2 : tie.Need-returns-2
 unfolding instantLabel
@@ -42,7 +42,7 @@ returns-2 c =
     let s = c .before .before .before .before .before in
     let g = c .before .r .given in
     let e = ap fieldsOutcome (sym (g .1)) ∙ c .before .before .before .split-instant .ensures ∙ ap splitAnswer (toZ-ofZ (s .fits .instant)) in
-    nothing-written (s .args .out .now) (ap (mapValue labelText) e)
+    nothing-written (s .args .out .now) (ap (λ o. andThen o fieldsLabel) e)
 
 pub write-instant-spec : {M : Type 1} → statement M
 write-instant-spec =
