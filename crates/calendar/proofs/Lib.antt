@@ -11,5 +11,6 @@ pub mod Shift
 pub mod March
 pub mod Conversion
 pub mod Laws
+pub mod Epoch
 pub mod WeekdayLaws
 pub mod BothWays

@@ -1,18 +1,19 @@
 -- Instants of the range have days of the calendar's range, and the other way round.
-use Prim.Native.Nat.{ℕ, _+_, _*_, _<_}
+use Prim.Native.Nat.{ℕ, _+_, _-_, _*_, _<_}
 use mathlib.Core.Path.{_≡_, refl, sym, ap, _∙_, subst}
 use mathlib.Core.Bool.{false, cond}
 use native.Mathlib.Omega.{arith}
 use lib.Dec.{lit<}
 use lib.IntN.{ℤ, pos, _+ℤ_, _*ℤ_, +ℤ-assoc, +ℤ-idr}
+use lib.Signed.{ltZ}
 use mir.Syntax.{w32, w64}
 use mir.Val.{SFits}
 use Rattle.refusal.specs.Outcome.{value, refused}
 use Rattle.numbers.specs.Range.{outside, since}
 use Rattle.numbers.proofs.Between.{fits-between}
 use Rattle.numbers.proofs.Floor.{remainder-below}
-use Rattle.numbers.proofs.Integers.{outside-no, not-outside, add-since, since-le, inside}
-use Rattle.numbers.proofs.Quotients.{quotient-monotone, mul-add}
+use Rattle.numbers.proofs.Integers.{outside-no, outside-as, add-since, since-le, inside}
+use Rattle.numbers.proofs.Quotients.{quotient-below, mul-add}
 use Rattle.calendar.specs.Range.{firstCount, lastCount}
 use Rattle.calendar.specs.Count.{dateOfCount}
 use Rattle.calendar.specs.Answers.{civilAnswer}
@@ -20,11 +21,17 @@ use Rattle.instant.specs.Units.{perDay, firstInstant, lastInstant}
 use Rattle.instant.specs.Instant.{dayOf, timeOf}
 use Rattle.instant.specs.Answers.{badInstant}
 
-pub day-inside : (instant : ℤ) → badInstant instant ≡ false → outside firstCount lastCount (dayOf instant) ≡ false
+-- the instants of the days first..last
+pub instants-of-days :
+    (first last instant : ℤ) → outside first last (dayOf instant) ≡ outside (first *ℤ pos perDay) (last *ℤ pos perDay +ℤ pos (perDay - 1)) instant
 unfolding dayOf
-day-inside instant h =
-    let t = outside-no firstInstant lastInstant instant h in
-    not-outside firstCount lastCount (dayOf instant) (quotient-monotone firstInstant instant perDay (lit< tt) (t .0)) (quotient-monotone instant lastInstant perDay (lit< tt) (t .1))
+instants-of-days first last instant =
+    outside-as (dayOf instant) first last instant (first *ℤ pos perDay) (last *ℤ pos perDay +ℤ pos (perDay - 1)) (quotient-below instant first perDay (lit< tt))
+    (quotient-below instant (last +ℤ pos 1) perDay (lit< tt)
+    ∙ ap (ltZ instant) (mul-add last 1 perDay ∙ sym (+ℤ-assoc (last *ℤ pos perDay) (pos (perDay - 1)) (pos 1))))
+
+pub day-inside : (instant : ℤ) → badInstant instant ≡ false → outside firstCount lastCount (dayOf instant) ≡ false
+day-inside instant h = instants-of-days firstCount lastCount instant ∙ h
 
 pub day-fits : (instant : ℤ) → badInstant instant ≡ false → SFits w32 (dayOf instant)
 day-fits instant h =

@@ -7,7 +7,7 @@ use mathlib.Core.List.{List, _++_}
 use native.Mathlib.Nat.{pow-le-pow-right}
 use native.Mathlib.Omega.{arith}
 use lib.Dec.{ltb, lit<}
-use lib.IntN.{ℤ, pos, natAbs}
+use lib.IntN.{ℤ, pos, negsuc, natAbs}
 use lib.ListN.{length, drop}
 use Rattle.refusal.specs.Outcome.{Outcome, value, refused, refusedAt, andThen}
 use Rattle.numbers.specs.Range.{outside}
@@ -18,12 +18,15 @@ use Rattle.refusal.proofs.Outcomes.{clash, passes, same-value}
 use Rattle.calendar.specs.Range.{firstYear, lastYear}
 use Rattle.calendar.specs.Gregorian.{monthLength, dateOf}
 use Rattle.calendar.specs.Answers.{ofDate}
-use Rattle.instant.specs.Instant.{fieldsWith, fieldsOf, timeOfFields, instantAt}
+use Rattle.calendar.proofs.Epoch.{year-zero-has-its-count, year-10000-has-its-count, days-of-years}
+use Rattle.instant.specs.Units.{firstInstant, lastInstant}
+use Rattle.instant.specs.Instant.{dayOf, fieldsWith, fieldsAt, fieldsOf, timeOfFields, instantAt}
 use Rattle.instant.specs.Answers.{badInstant, badTime, splitAnswer, joinAnswer}
 use Rattle.instant.specs.declared.Fields.{Fields}
+use Rattle.instant.proofs.Ranges.{instants-of-days, day-inside}
 use Rattle.instant.proofs.Laws.{split-join, join-split}
 use Rattle.labels.specs.Digits.{digits, number, numberAt, fits}
-use Rattle.labels.specs.Years.{firstLabelYear, lastLabelYear}
+use Rattle.labels.specs.Years.{firstLabelYear, lastLabelYear, firstLabelInstant, lastLabelInstant}
 use Rattle.labels.specs.Rfc3339.{labelLength, decimals, dateText, timeText, numbersText, dateShape, timeShape, labelText, fieldsLabel, instantLabel, readFields, readAnswer}
 use Rattle.labels.specs.Capitals.{inCapitals}
 use Rattle.labels.specs.Parts.{HasRoom, NarrowFields}
@@ -94,10 +97,35 @@ fields-read instant f e h =
     ap (λ t. cond t (readFields (labelText f) (drop 10 (labelText f))) (refused 8)) (label-fits f)
     ∙ fields-back f h (fields-narrow instant f e) ∙ split-join instant f e
 
--- the label of an instant in the range is that of its fields, or 1 for a year that has none
-pub instant-labelled : (instant : ℤ) → badInstant instant ≡ false → instantLabel instant ≡ fieldsLabel (fieldsOf instant)
+-- an instant of the range has a year of labels exactly if it is one of document 01's
+label-years :
+    (instant : ℤ) → badInstant instant ≡ false →
+    outside firstLabelYear lastLabelYear (fieldsOf instant .year) ≡ outside firstLabelInstant lastLabelInstant instant
+unfolding fieldsOf fieldsAt
+label-years instant h =
+    days-of-years (dayOf instant) (day-inside instant h) firstLabelYear lastLabelYear (negsuc 719527) (pos 2932896) year-zero-has-its-count
+    year-10000-has-its-count
+    ∙ instants-of-days (negsuc 719527) (pos 2932896) instant
+
+-- the label of an instant, exactly: 4 outside the range, 1 outside document 01's range, else the text of its fields
+pub label-exactly :
+    (instant : ℤ) → instantLabel instant
+    ≡ cond (badInstant instant) (refused 4)
+    (cond (outside firstLabelInstant lastLabelInstant instant) (refused 1) (value (labelText (fieldsOf instant))))
 unfolding instantLabel splitAnswer
-instant-labelled instant h = ap (λ t. andThen (cond t (refused 4) (value (fieldsOf instant))) fieldsLabel) h
+label-exactly instant = go (badInstant instant) refl
+  where
+    go : (t : Bool) → badInstant instant ≡ t →
+        andThen (cond t (refused 4) (value (fieldsOf instant))) fieldsLabel
+        ≡ cond t (refused 4) (cond (outside firstLabelInstant lastLabelInstant instant) (refused 1) (value (labelText (fieldsOf instant))))
+    go true h = refl
+    go false h = ap (λ t. cond t (refused 1) (value (labelText (fieldsOf instant)))) (label-years instant h)
+
+-- so every instant of document 01's range has a label
+pub instant-labelled : (instant : ℤ) → outside firstLabelInstant lastLabelInstant instant ≡ false → instantLabel instant ≡ value (labelText (fieldsOf instant))
+instant-labelled instant h =
+    label-exactly instant
+    ∙ (λ i. cond (wider firstLabelInstant lastLabelInstant firstInstant lastInstant instant refl refl h i) (refused 4) (cond (h i) (refused 1) (value (labelText (fieldsOf instant)))))
 
 -- writing then reading gives the instant back
 pub write-read : (instant : ℤ) (label : List ℕ) → instantLabel instant ≡ value label → readAnswer label ≡ value instant

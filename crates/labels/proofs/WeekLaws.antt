@@ -1,22 +1,30 @@
 -- Week labels: both round trips, their length, and the reader's refusals.
 use Prim.Native.Nat.{ℕ}
 use mathlib.Core.Path.{_≡_, refl, sym, ap, _∙_, subst}
-use mathlib.Core.Logic.{_↔_, _⊎_, ⊎-elim}
+use mathlib.Core.Logic.{_↔_, _⊎_, inl, inr, ⊎-elim}
 use mathlib.Core.Bool.{Bool, true, false, cond}
 use mathlib.Core.List.{List, [], _∷_, _++_}
 use native.Mathlib.Omega.{arith}
-use lib.IntN.{ℤ, pos, natAbs}
+use lib.IntN.{ℤ, pos, natAbs, _+ℤ_}
 use lib.ListN.{length, drop}
+use borrow.Author.Tests.{lt-ltb}
 use Rattle.refusal.specs.Outcome.{Outcome, value, refused, refusedAt, andThen}
 use Rattle.refusal.proofs.Outcomes.{clash, passes, same-value}
-use Rattle.numbers.specs.Range.{outside}
-use Rattle.numbers.proofs.Integers.{wider}
+use Rattle.numbers.specs.Range.{outside, since}
+use Rattle.numbers.proofs.Between.{natural-within}
+use Rattle.numbers.proofs.Integers.{wider, outside-as}
+use Rattle.calendar.specs.Range.{firstCount, lastCount}
+use Rattle.calendar.specs.Closed.{leaps, start}
 use Rattle.week.specs.declared.WeekDate.{WeekDate}
+use Rattle.week.specs.Week.{weekDate, weekDateOf}
+use Rattle.week.specs.Closed.{baseYear, firstDay}
 use Rattle.week.specs.Answers.{firstWeekYear, lastWeekYear, weekAnswer, weekDaysAnswer}
-use Rattle.week.proofs.Laws.{days-of-week, week-of-days, week-refusal}
+use Rattle.week.proofs.Weeks.{week-date-in}
+use Rattle.week.proofs.OrderLaws.{earlier-week-year}
+use Rattle.week.proofs.Laws.{days-of-week, week-of-days, week-refusal, four-at-the-ends}
 use Rattle.labels.specs.Digits.{digits, numberAt, fits}
 use Rattle.labels.specs.Rfc3339.{dash}
-use Rattle.labels.specs.Years.{firstLabelYear, lastLabelYear}
+use Rattle.labels.specs.Years.{firstLabelYear, lastLabelYear, firstLabelDay, lastLabelDay}
 use Rattle.labels.specs.IsoWeek.{letterW, weekLength, weekText, weekDateLabel, weekLabel, weekShape, readNumbers, readWeekAnswer}
 use Rattle.labels.proofs.Decimal.{label-year}
 use Rattle.labels.proofs.Shapes.{fits-both, digits-fit, digits-front, mark-front, fits-nothing}
@@ -30,6 +38,39 @@ week-label-length year week weekday = refl
 
 pub week-label-bytes : weekLength ≡ 10
 week-label-bytes = refl
+
+-- the first days of the week years 0 and 10000
+first-label-week : weekDaysAnswer firstLabelYear (pos 1) (pos 1) ≡ value firstLabelDay
+unfolding weekAnswer firstDay start leaps
+first-label-week =
+    days-of-week firstLabelDay (weekDate firstLabelYear (pos 1) (pos 1)) (ap value (week-date-in firstLabelDay (since baseYear firstLabelYear) tt tt refl))
+
+week-after-labels : weekDaysAnswer (lastLabelYear +ℤ pos 1) (pos 1) (pos 1) ≡ value (lastLabelDay +ℤ pos 1)
+unfolding weekAnswer firstDay start leaps
+week-after-labels =
+    days-of-week (lastLabelDay +ℤ pos 1) (weekDate (lastLabelYear +ℤ pos 1) (pos 1) (pos 1))
+    (ap value (week-date-in (lastLabelDay +ℤ pos 1) (since baseYear (lastLabelYear +ℤ pos 1)) tt tt refl))
+
+-- the label of a day, exactly: 4 outside the range, 1 outside the days of the week years 0 to 9999, else the text of its week date
+module _ (days : ℤ) where
+  abbrev textOf : List ℕ
+  textOf = let d = weekDateOf days in weekText (natAbs (d .year)) (natAbs (d .week)) (natAbs (d .weekday))
+
+  pub week-label-exactly :
+      weekLabel days
+      ≡ cond (outside firstCount lastCount days) (refused 4) (cond (outside firstLabelDay lastLabelDay days) (refused 1) (value textOf))
+  unfolding weekLabel weekAnswer
+  week-label-exactly = go (outside firstCount lastCount days) refl
+    where
+      go : (t : Bool) → outside firstCount lastCount days ≡ t →
+          andThen (cond t (refused 4) (value (weekDateOf days))) weekDateLabel
+          ≡ cond t (refused 4) (cond (outside firstLabelDay lastLabelDay days) (refused 1) (value textOf))
+      go true h = refl
+      go false h =
+          ap (λ t. cond t (refused 1) (value textOf))
+          (outside-as (weekDateOf days .year) firstLabelYear lastLabelYear days firstLabelDay lastLabelDay
+          (earlier-week-year days h firstLabelYear firstLabelDay first-label-week)
+          (earlier-week-year days h (lastLabelYear +ℤ pos 1) (lastLabelDay +ℤ pos 1) week-after-labels))
 
 -- a written text has the shape
 text-fits : (year week weekday : ℕ) → fits weekShape (weekText year week weekday) ≡ true
@@ -111,33 +152,48 @@ read-write-week label days e =
 
 -- ---- the reader's refusals
 
--- the years of labels are week years: reading never refuses with 1
+-- the years of labels are week years, and all their days lie in the range
 week-year : (label : List ℕ) → fits weekShape label ≡ true → outside firstWeekYear lastWeekYear (pos (numberAt 0 4 label)) ≡ false
 week-year label h = wider firstLabelYear lastLabelYear firstWeekYear lastWeekYear (pos (numberAt 0 4 label)) refl refl (year-inside label h)
 
-numbers-refusal : (label : List ℕ) → fits weekShape label ≡ true → (n : ℕ) → readNumbers label ≡ refused n → (n ≡ 16) ⊎ (n ≡ 4)
-numbers-refusal label h n e = week-refusal (pos (numberAt 0 4 label)) (week-year label h) (pos (numberAt 6 2 label)) (pos (numberAt 9 1 label)) n e
+numbers-refusal : (label : List ℕ) → fits weekShape label ≡ true → (n : ℕ) → readNumbers label ≡ refused n → n ≡ 16
+numbers-refusal label h n e =
+    let year = numberAt 0 4 label in
+    let week = pos (numberAt 6 2 label) in
+    let weekday = pos (numberAt 9 1 label) in
+    let l = natural-within 0 lastLabelYear (pos year) (year-inside label h) .high in
+    ⊎-elim (λ p. p)
+    (λ p. absurd (four-at-the-ends (pos year) (week-year label h) refl (lt-ltb year (natAbs lastWeekYear) (omega arith)) week weekday (e ∙ ap refused p)))
+    (week-refusal (pos year) (week-year label h) week weekday n e)
 
-shaped : (label : List ℕ) (n : ℕ) → fits weekShape label ≡ true → readWeekAnswer label ≡ refused n → (n ≡ 16) ⊎ (n ≡ 4)
+shaped : (label : List ℕ) (n : ℕ) → fits weekShape label ≡ true → readWeekAnswer label ≡ refused n → n ≡ 16
 unfolding readWeekAnswer
 shaped label n h e = numbers-refusal label h n (sym (ap (λ t. cond t (readNumbers label) (refused 8)) h) ∙ e)
 
-pub read-week-year : (label : List ℕ) → readWeekAnswer label ≡ refused 1 → ⊥
+-- reading refuses with nothing but 8 and 16
+pub read-week-refusal : (label : List ℕ) (n : ℕ) → readWeekAnswer label ≡ refused n → (n ≡ 8) ⊎ (n ≡ 16)
 unfolding readWeekAnswer
-read-week-year label e = go (fits weekShape label) refl
+read-week-refusal label n e = go (fits weekShape label) refl
   where
-    go : (t : Bool) → fits weekShape label ≡ t → ⊥
-    go true h = ⊎-elim (λ p. omega arith) (λ p. omega arith) (shaped label 1 h e)
-    go false h = clash-eight (sym (ap (λ t. cond t (readNumbers label) (refused 8)) h) ∙ e)
-      where
-        clash-eight : _≡_ {A = Outcome ℤ} (refused 8) (refused 1) → ⊥
-        clash-eight f = let z : _≡_ {A = ℕ} 8 1 = cc in omega arith
+    eight : _≡_ {A = Outcome ℤ} (refused 8) (refused n) → n ≡ 8
+    eight f = cc
+
+    go : (t : Bool) → fits weekShape label ≡ t → (n ≡ 8) ⊎ (n ≡ 16)
+    go true h = inr (shaped label n h e)
+    go false h = inl (eight (sym (ap (λ t. cond t (readNumbers label) (refused 8)) h) ∙ e))
+
+-- so never with 1, and never with 4
+pub read-week-year : (label : List ℕ) → readWeekAnswer label ≡ refused 1 → ⊥
+read-week-year label e = ⊎-elim (λ p. omega arith) (λ p. omega arith) (read-week-refusal label 1 e)
+
+pub read-week-range : (label : List ℕ) → readWeekAnswer label ≡ refused 4 → ⊥
+read-week-range label e = ⊎-elim (λ p. omega arith) (λ p. omega arith) (read-week-refusal label 4 e)
 
 -- reading refuses with 8 exactly if the label has another shape
 pub eight-exactly-week : (label : List ℕ) → (readWeekAnswer label ≡ refused 8) ↔ (fits weekShape label ≡ false)
 unfolding readWeekAnswer
 eight-exactly-week label = (
-  λ e. no-true (fits weekShape label) (λ h. ⊎-elim (λ p. omega arith) (λ p. omega arith) (shaped label 8 h e)),
+  λ e. no-true (fits weekShape label) (λ h. omega (arith, shaped label 8 h e)),
   λ h. ap (λ t. cond t (readNumbers label) (refused 8)) h,
 )
   where

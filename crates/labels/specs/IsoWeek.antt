@@ -41,6 +41,6 @@ abbrev pub readNumbers : (label : List ℕ) → Outcome ℤ
 readNumbers label = weekDaysAnswer (pos (numberAt 0 4 label)) (pos (numberAt 6 2 label)) (pos (numberAt 9 1 label))
 
 -- 8 for "any length but 10", a non-digit or a wrong mark; else what its numbers are: 1, 16, 4 or the day count. Four digits are never a
--- week year outside the range, so that is never 1 (`read-week-year`)
+-- week year outside the range, and all days of theirs lie in it, so that is never 1 or 4 (`read-week-year`, `read-week-range`)
 unfoldable pub readWeekAnswer : (label : List ℕ) → Outcome ℤ
 readWeekAnswer label = cond (fits weekShape label) (readNumbers label) (refused 8)

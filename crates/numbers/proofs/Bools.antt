@@ -7,6 +7,17 @@ use mathlib.Core.Bool.{Bool, true, false, not, _&&_, _||_, Bool·beq, true≢fal
 pub no-both : {G : Type 0} (t : Bool) → t ≡ true → t ≡ false → G
 no-both t p q = absurd (true≢false (sym p ∙ q))
 
+-- two tests are one if each holds where the other does, or fails where the other does
+pub same-yes : (s t : Bool) → (s ≡ true → t ≡ true) → (t ≡ true → s ≡ true) → s ≡ t
+same-yes true t there back = sym (there refl)
+same-yes false true there back = back refl
+same-yes false false there back = refl
+
+pub same-no : (s t : Bool) → (s ≡ false → t ≡ false) → (t ≡ false → s ≡ false) → s ≡ t
+same-no false t there back = sym (there refl)
+same-no true false there back = back refl
+same-no true true there back = refl
+
 -- neither of two tests holds
 pub or-no : (a b : Bool) → (a || b) ≡ false → (a ≡ false) × (b ≡ false)
 or-no true b h = no-both true refl h

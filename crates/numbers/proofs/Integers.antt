@@ -1,7 +1,8 @@
 -- Whole numbers as a first number and a natural number more, and their order.
 use Prim.Native.Nat.{ℕ, suc, _+_, _-_, _≤_, _<_}
 use mathlib.Core.Path.{_≡_, refl, sym, ap, ap₂, _∙_}
-use mathlib.Core.Bool.{Bool, true, false, cond, _||_}
+use mathlib.Core.Bool.{Bool, true, false, cond, not, _||_}
+use native.Mathlib.Numerals.{add-one}
 use native.Mathlib.Omega.{arith}
 use native.Mathlib.Decide.{decLt}
 use lib.Dec.{ltb}
@@ -121,6 +122,19 @@ lt-shift z a b = go (ltZ a b) refl
         let n = above b a h in
         ap (λ x. ltZ x (z +ℤ b)) (ap (λ a. z +ℤ a) (n .1) ∙ move z b (n .0)) ∙ not-below (z +ℤ b) (n .0)
 
+-- above a is what is not below the number after it
+above-not-below : (a z : ℤ) → ltZ a z ≡ not (ltZ z (a +ℤ pos 1))
+above-not-below a z = go (ltZ a z) refl
+  where
+    go : (t : Bool) → ltZ a z ≡ t → t ≡ not (ltZ z (a +ℤ pos 1))
+    go true h =
+        let n = below a z h in
+        let e : suc (n .0) ≡ 1 + n .0 = omega arith in
+        ap not (sym (ap (λ z. ltZ z (a +ℤ pos 1)) (n .1 ∙ ap (λ m. a +ℤ pos m) e ∙ sym (+ℤ-assoc a (pos 1) (pos (n .0)))) ∙ not-below (a +ℤ pos 1) (n .0)))
+    go false h =
+        let n = above z a h in
+        ap not (sym (ap (ltZ z) (ap (λ a. a +ℤ pos 1) (n .1) ∙ +ℤ-assoc z (pos (n .0)) (pos 1) ∙ ap (λ m. z +ℤ pos m) (add-one (n .0))) ∙ is-below z (n .0)))
+
 -- z + (a - z) is a
 pub add-difference : (z a : ℤ) → z +ℤ (a -ℤ z) ≡ a
 add-difference z a = +ℤ-comm z (a -ℤ z) ∙ -ℤ-+ℤ-cancel a z
@@ -153,6 +167,11 @@ pub wider :
 wider first last low high z p q h =
     let t = outside-no first last z h in
     not-outside low high z (not-below-trans z first low (t .0) p) (not-below-trans high last z q (t .1))
+
+-- y lies outside from..to exactly if z does outside first..last, where it is below the one's ends exactly if z is below the other's
+pub outside-as :
+    (y from to z first last : ℤ) → ltZ y from ≡ ltZ z first → ltZ y (to +ℤ pos 1) ≡ ltZ z (last +ℤ pos 1) → outside from to y ≡ outside first last z
+outside-as y from to z first last p q = ap₂ _||_ p (above-not-below to y ∙ ap not q ∙ sym (above-not-below last z))
 
 pub below-outside : (first last z : ℤ) → ltZ z first ≡ true → outside first last z ≡ true
 below-outside first last z lo = ap (λ t. t || ltZ last z) lo

@@ -9,7 +9,8 @@ use lib.Signed.{ltZ}
 use borrow.Author.Tests.{ltb-false, le-ltb}
 use Rattle.numbers.specs.Floor.{floorQuotient, floorRemainder}
 use Rattle.numbers.proofs.Floor.{neg-add, quotient-and-remainder}
-use Rattle.numbers.proofs.Bools.{no-both}
+use Rattle.numbers.proofs.Integers.{above, not-below}
+use Rattle.numbers.proofs.Bools.{no-both, same-no}
 
 div-monotone : (a b d : ℕ) → 0 < d → a ≤ b → a / d ≤ b / d
 div-monotone a b d h l = le-div-iff-mul-le h .1 (omega (arith, div-mul-le-self a d))
@@ -49,6 +50,18 @@ mul-add z (suc n) d =
     ap (λ (y : ℤ). y *ℤ pos d) (+ℤ-sucℤ z (pos n)) ∙ sucℤ-*ℤ (z +ℤ pos n) (pos d) ∙ ap (λ (y : ℤ). y +ℤ pos d) (mul-add z n d)
     ∙ +ℤ-assoc (z *ℤ pos d) (pos (n * d)) (pos d)
     ∙ ap (λ (n : ℕ). z *ℤ pos d +ℤ pos n) (omega arith)
+
+-- a quotient is below q exactly if the number is below q times d
+pub quotient-below : (z q : ℤ) (d : ℕ) → 0 < d → ltZ (floorQuotient z d) q ≡ ltZ z (q *ℤ pos d)
+quotient-below z q d h =
+    same-no (ltZ (floorQuotient z d) q) (ltZ z (q *ℤ pos d))
+    (λ p. let n = above q (floorQuotient z d) p in ap (λ (y : ℤ). ltZ y (q *ℤ pos d)) (from-product (n .0) (n .1)) ∙ not-below (q *ℤ pos d) (n .0 * d + floorRemainder z d))
+    (λ r. ap (ltZ (floorQuotient z d)) (sym (quotient-is d 0 h q) ∙ ap (λ (y : ℤ). floorQuotient y d) (+ℤ-idr (q *ℤ pos d))) ∙ quotient-monotone (q *ℤ pos d) z d h r)
+  where
+    from-product : (n : ℕ) → floorQuotient z d ≡ q +ℤ pos n → z ≡ q *ℤ pos d +ℤ pos (n * d + floorRemainder z d)
+    from-product n e =
+        sym (quotient-and-remainder z d h) ∙ ap (λ (y : ℤ). y *ℤ pos d +ℤ pos (floorRemainder z d)) e
+        ∙ ap (λ (y : ℤ). y +ℤ pos (floorRemainder z d)) (mul-add q n d) ∙ +ℤ-assoc (q *ℤ pos d) (pos (n * d)) (pos (floorRemainder z d))
 
 mul-sum : (a b : ℤ) (d : ℕ) → (a +ℤ b) *ℤ pos d ≡ a *ℤ pos d +ℤ b *ℤ pos d
 mul-sum a (pos n) d = mul-add a n d

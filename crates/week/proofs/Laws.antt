@@ -1,15 +1,16 @@
 -- The theorems of week dates, over the definition by steps: document 02, request Seven.
-use Prim.Native.Nat.{ℕ, _+_, _≤_}
+use Prim.Native.Nat.{ℕ, _+_, _≤_, _<_}
 use mathlib.Core.Path.{_≡_, refl, sym, ap, ap₂, _∙_}
 use mathlib.Core.Logic.{_↔_, _⊎_, inl, inr, ⊎-elim}
 use mathlib.Core.Bool.{Bool, true, false, cond}
 use native.Mathlib.Omega.{arith, by-contra}
 use lib.IntN.{ℤ, pos, natAbs, _+ℤ_}
 use lib.Signed.{ltZ}
+use borrow.Author.Tests.{ltb-true}
 use Rattle.refusal.specs.Outcome.{Outcome, value, refused}
 use Rattle.refusal.proofs.Outcomes.{clash, passes, same-value}
 use Rattle.numbers.specs.Range.{outside, since}
-use Rattle.numbers.proofs.Integers.{add-since, wider}
+use Rattle.numbers.proofs.Integers.{add-since, lt-add, wider}
 use Rattle.numbers.proofs.Between.{natural-within, inside-pos, inside-from}
 use Rattle.numbers.proofs.Bools.{no-both}
 use Rattle.calendar.specs.Range.{firstCount, lastCount}
@@ -20,7 +21,7 @@ use Rattle.week.specs.declared.WeekDate.{WeekDate}
 use Rattle.week.specs.Week.{weekDate, weekDateOf}
 use Rattle.week.specs.Answers.{weekAnswer, firstWeekYear, lastWeekYear, inRange, weekDaysAnswer}
 use Rattle.week.specs.Order.{DayOf, HasWeeks}
-use Rattle.week.specs.Closed.{baseYear, baseCount, fromYear, toYear, InYear, weeks, dayOf}
+use Rattle.week.specs.Closed.{baseYear, baseCount, fromYear, toYear, fromDay, toDay, InYear, weeks, dayOf}
 use Rattle.week.proofs.Years.{thursdayAt, first-day-step, first-day-monotone, first-day-of-first, first-day-of-last, HasWeek, by-weeks, week-of-day}
 use Rattle.week.proofs.Dates.{on-day}
 use Rattle.week.proofs.Weeks.{week-date-at}
@@ -168,6 +169,28 @@ module _ (year : ℤ) (h : outside firstWeekYear lastWeekYear year ≡ false) wh
           go : (t : Bool) → cond t (refused 4) (value z) ≡ refused 4 → t ≡ true
           go true e = refl
           go false e = clash (cc)
+
+  -- every day of a week year between the first and the last lies in the range, so that 4 is for these two only
+  module _ (after : ltZ firstWeekYear year ≡ true) (before : ltZ year lastWeekYear ≡ true) where
+    number-after : fromYear < number
+    number-after = ltb-true fromYear number (sym (lt-add baseYear fromYear number) ∙ ap (ltZ firstWeekYear) year-is ∙ after)
+
+    number-before : number < toYear
+    number-before = ltb-true number toYear (sym (lt-add baseYear number toYear) ∙ ap (λ y. ltZ y lastWeekYear) year-is ∙ before)
+
+    inner-day : {week weekday : ℤ} (a : DayOf year week weekday) → outside firstCount lastCount (a .day) ≡ false
+    inner-day a =
+        let n = since baseCount (a .day) in
+        let i = day-has a .week-day .in-year in
+        let l = number-after in
+        let k = number-before in
+        ap (outside firstCount lastCount) (sym (add-since baseCount (a .day) (from-base a)))
+        ∙ inside-from baseCount fromDay toDay n
+        (omega (arith, i .low, first-day-of-first, first-day-step fromYear, first-day-monotone (fromYear + 1) number (omega arith)))
+        (omega (arith, i .high, first-day-of-last, first-day-monotone (number + 1) toYear (omega arith)))
+
+    pub four-at-the-ends : (week weekday : ℤ) → weekDaysAnswer year week weekday ≡ refused 4 → ⊥
+    four-at-the-ends week weekday e = let a = four-exactly week weekday .0 e in no-both _ (a .1) (inner-day (a .0))
 
   -- it is refused with nothing but 16 and 4
   pub week-refusal : (week weekday : ℤ) (n : ℕ) → weekDaysAnswer year week weekday ≡ refused n → (n ≡ 16) ⊎ (n ≡ 4)

@@ -10,11 +10,12 @@ use borrow.Author.Tests.{ltb-true, lt-ltb}
 use Rattle.refusal.specs.Outcome.{value}
 use Rattle.refusal.proofs.Outcomes.{passes, same-value}
 use Rattle.numbers.specs.Range.{outside, since}
-use Rattle.numbers.proofs.Integers.{lt-add, add-injective}
+use Rattle.numbers.proofs.Integers.{outside-no, lt-add, add-injective}
+use Rattle.numbers.proofs.Bools.{no-both, same-yes}
 use Rattle.calendar.specs.Range.{firstCount, lastCount}
 use Rattle.calendar.proofs.Order.{Precedes, in-year, in-month, in-day, trichotomy}
 use Rattle.week.specs.declared.WeekDate.{WeekDate}
-use Rattle.week.specs.Week.{weekDateOf}
+use Rattle.week.specs.Week.{weekDate, weekDateOf}
 use Rattle.week.specs.Answers.{weekAnswer, weekDaysAnswer}
 use Rattle.week.specs.Order.{EarlierWeek, by-year, by-week, by-weekday}
 use Rattle.week.specs.Closed.{baseYear, baseCount, firstDay}
@@ -22,7 +23,7 @@ use Rattle.week.proofs.Years.{thursdayAt, first-day-monotone, WeekDay}
 use Rattle.week.proofs.Dates.{on-day}
 use Rattle.week.proofs.Weeks.{weekAt, week-date-at}
 use Rattle.numbers.proofs.Based.{is}
-use Rattle.week.proofs.Laws.{week-of-days}
+use Rattle.week.proofs.Laws.{week-of-days, week-date-is-right}
 
 -- a day that precedes another by year, week and weekday
 precedes-less : (n n′ y w d y′ w′ d′ : ℕ) → WeekDay n y w d → WeekDay n′ y′ w′ d′ → Precedes y w d y′ w′ d′ → n < n′
@@ -88,12 +89,29 @@ module _ (a b : ℤ) (p : outside firstCount lastCount a ≡ false) (q : outside
     λ h. subst (λ (d : WeekDate). EarlierWeek d (weekDateOf b)) (sym (day a p)) (subst (EarlierWeek (weekAt m (yearOf m))) (sym (day b q)) (less-earlier m n (ltb-true m n (sym (lt-add baseCount m n) ∙ sym less ∙ h)))),
   )
 
+-- no day of a week year is before its first
+first-of-year : (year z : ℤ) → outside firstCount lastCount z ≡ false → EarlierWeek (weekDateOf z) (weekDate year (pos 1) (pos 1)) → ltZ (weekDateOf z .year) year ≡ true
+first-of-year year z h (by-year l) = l
+first-of-year year z h (by-week p l) = no-both _ l (outside-no (pos 1) (pos 53) (weekDateOf z .week) (week-date-is-right z h .0) .0)
+first-of-year year z h (by-weekday p q l) = no-both _ l (outside-no (pos 1) (pos 7) (weekDateOf z .weekday) (week-date-is-right z h .1) .0)
+
 -- and of accepted week dates
 accepted : (d : WeekDate) (z : ℤ) → weekDaysAnswer (d .year) (d .week) (d .weekday) ≡ value z → (outside firstCount lastCount z ≡ false) × (weekDateOf z ≡ d)
 unfolding weekAnswer
 accepted d z e =
     let k = passes (outside firstCount lastCount z) 4 (value (weekDateOf z)) (sym (week-of-days (d .year) (d .week) (d .weekday) z e)) in
     (k .0, sym (same-value (k .1)))
+
+-- a day lies in an earlier week year exactly if its count is smaller than that of the year's first day
+pub earlier-week-year :
+    (z : ℤ) → outside firstCount lastCount z ≡ false → (year first : ℤ) → weekDaysAnswer year (pos 1) (pos 1) ≡ value first →
+    ltZ (weekDateOf z .year) year ≡ ltZ z first
+earlier-week-year z h year first e =
+    let k = accepted (weekDate year (pos 1) (pos 1)) first e in
+    let o = earlier-week-exactly z first h (k .0) in
+    same-yes (ltZ (weekDateOf z .year) year) (ltZ z first)
+    (λ t. o .0 (subst (EarlierWeek (weekDateOf z)) (sym (k .1)) (by-year t)))
+    (λ t. first-of-year year z h (subst (EarlierWeek (weekDateOf z)) (k .1) (o .1 t)))
 
 pub earlier-accepted-exactly :
     (d e : WeekDate) (a b : ℤ) → weekDaysAnswer (d .year) (d .week) (d .weekday) ≡ value a → weekDaysAnswer (e .year) (e .week) (e .weekday) ≡ value b →

@@ -1,13 +1,14 @@
 -- Week dates by the closed forms: which week a day from the base on lies in.
-use Prim.Native.Nat.{ℕ, zero, suc, _+_, _-_, _/_, _%_, _≤_}
-use mathlib.Core.Path.{_≡_, refl, ap, _∙_}
+use Prim.Native.Nat.{ℕ, zero, suc, _+_, _-_, _/_, _%_, _≤_, _<_}
+use mathlib.Core.Path.{_≡_, refl, sym, ap, _∙_}
 use mathlib.Core.Bool.{Bool, true, false, cond}
 use native.Mathlib.Numerals.{add-one}
 use native.Mathlib.Omega.{arith}
-use lib.Dec.{eqb}
+use lib.Dec.{T, eqb, leb, lit≤}
 use lib.IntN.{ℤ, pos, negsuc, natAbs, _+ℤ_, _-ℤ_, +ℤ-assoc}
 use borrow.Author.Tests.{eqb-true, eqb-false}
 use Rattle.numbers.specs.Floor.{floorRemainder}
+use Rattle.numbers.specs.Range.{since}
 use Rattle.numbers.proofs.Integers.{on-sub, sub-pos}
 use Rattle.calendar.specs.Count.{weekday}
 use Rattle.calendar.proofs.Weekdays.{remainder-swap, weekday-between, weekday-after}
@@ -84,3 +85,12 @@ week-date-at n y i =
     let p = ap (λ (z : ℤ). dateOn z .year) (thursday-at n) ∙ o .year-is ∙ ap (λ y. baseYear +ℤ pos y) e in
     let q = ap thursdaysOfYear (thursday-at n) ∙ week-at-thursday (thursdayAt n) (omega arith) ∙ ap (λ y. (thursdayAt n - firstDay y) / 7 + 1) e in
     λ k. weekDate (p k) (pos (q k)) (weekday-at n k)
+
+-- the same of day z, by a computed test of the year
+pub week-date-in :
+    (z : ℤ) (y : ℕ) → T (leb (firstDay y) (thursdayAt (since baseCount z))) → T (leb (thursdayAt (since baseCount z) + 1) (firstDay (y + 1))) →
+    baseCount +ℤ pos (since baseCount z) ≡ z → weekDateOf z ≡ weekAt (since baseCount z) y
+week-date-in z y low high e = ap weekDateOf (sym e) ∙ week-date-at (since baseCount z) y (record { low = lit≤ low; high = lt (lit≤ high) })
+  where
+    lt : {a b : ℕ} → a + 1 ≤ b → a < b
+    lt h = omega arith
