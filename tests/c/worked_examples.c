@@ -80,8 +80,8 @@ static void shift_row(int64_t year, int64_t month, int64_t day, int64_t days)
 
 static void calendar_rows(void)
 {
-    static const int64_t days[] = {-719528, -719469, -719468, -25509,  -25508,  -1,      0,        11016,
-                                   19487,   47540,   47541,   2932896, 2932897, -719529, INT64_MAX};
+    static const int64_t days[] = {-719528, -719469, -719468, -25509, -25508, -1, 0, 11016, 19487, 47540, 47541,
+                                   2932896, 2932897, -719529, -12407288, -12407289, 10968231, 10968232, INT64_MAX};
     size_t i;
     for (i = 0; i < sizeof days / sizeof *days; i++)
         day_row(days[i]);
@@ -94,13 +94,21 @@ static void calendar_rows(void)
     date_row(2023, 13, 99);
     date_row(9999, 12, 31);
     date_row(10000, 1, 1);
-    date_row(-1, 0, 0);
+    date_row(-1, 12, 31);
+    date_row(-4, 2, 29);
+    date_row(-100, 2, 29);
+    date_row(-400, 2, 29);
+    date_row(-32000, 1, 1);
+    date_row(31999, 12, 31);
+    date_row(32000, 1, 1);
+    date_row(-32001, 0, 0);
     shift_row(1970, 1, 1, -719528);
-    shift_row(1970, 1, 1, -719529);
-    shift_row(0, 1, 1, 3652424);
-    shift_row(0, 1, 1, 3652425);
-    shift_row(9999, 12, 31, INT64_MAX);
-    shift_row(0, 1, 1, INT64_MIN);
+    shift_row(1970, 1, 1, -12407288);
+    shift_row(1970, 1, 1, -12407289);
+    shift_row(-32000, 1, 1, 23375519);
+    shift_row(-32000, 1, 1, 23375520);
+    shift_row(31999, 12, 31, INT64_MAX);
+    shift_row(-32000, 1, 1, INT64_MIN);
     shift_row(1900, 2, 29, 0);
 }
 
@@ -151,16 +159,28 @@ static void week_rows(void)
     week_row(-719527);
     week_row(-719526);
     week_row(2932896);
-    week_row(-719529);
     week_row(2932897);
+    week_row(2932898);
+    week_row(2932899);
+    week_row(-12407288);
+    week_row(-12407289);
+    week_row(10968231);
+    week_row(10968232);
     week_date_row(-1, 52, 6);
     week_date_row(-1, 52, 5);
     week_date_row(-1, 53, 1);
-    week_date_row(-2, 1, 1);
-    week_date_row(10000, 1, 1);
     week_date_row(9999, 52, 5);
     week_date_row(9999, 52, 6);
     week_date_row(9999, 52, 7);
+    week_date_row(9999, 53, 1);
+    week_date_row(10000, 1, 1);
+    week_date_row(-32001, 52, 6);
+    week_date_row(-32001, 52, 5);
+    week_date_row(-32001, 53, 1);
+    week_date_row(-32002, 1, 1);
+    week_date_row(31999, 52, 5);
+    week_date_row(31999, 52, 6);
+    week_date_row(32000, 1, 1);
     week_date_row(2021, 53, 1);
     week_date_row(2020, 53, 4);
     week_date_row(2020, 0, 1);
@@ -169,11 +189,16 @@ static void week_rows(void)
     week_label_row(19487);
     week_label_row(18627);
     week_label_row(18628);
-    week_label_row(-719528);
+    week_label_row(-719527);
     week_label_row(-719526);
-    week_label_row(-719529);
     week_label_row(2932897);
+    week_label_row(2932898);
+    week_label_row(2932899);
+    week_label_row(-12407289);
+    week_label_row(10968232);
     short_week_label_row(19487);
+    short_week_label_row(-719527);
+    short_week_label_row(10968232);
     week_label_read_row("2023-W19-3");
     week_label_read_row("2020-W53-4");
     week_label_read_row("2020-W53-5");
@@ -184,6 +209,8 @@ static void week_rows(void)
     week_label_read_row("2023-W01-9");
     week_label_read_row("-001-W52-6");
     week_label_read_row("9999-W52-6");
+    week_label_read_row("9999-W52-7");
+    week_label_read_row("9999-W53-1");
     week_label_read_row("0000-W01-1");
     week_label_read_row("2023-W1-3");
     week_label_read_row("10000-W01-1");
@@ -232,11 +259,12 @@ static void index_row(const char *words, const int64_t *instants, size_t count, 
 
 static void instant_rows(void)
 {
-    static const int64_t instants[] = {-86400000,          -86400001,           -1,
-                                       0,                  1683729000000LL,     -62167219200000LL,
-                                       -62167219200001LL,  253402300799999LL,   253402300800000LL};
-    static const int64_t across[] = {-1, 0, 86399999, 86400000}, outside_last[] = {0, 253402300800000LL};
-    static const int64_t falling[] = {0, 86400000, 86399999}, equal[] = {5, 5}, both_wrong[] = {1, 0, 253402300800000LL};
+    static const int64_t instants[] = {-86400000, -86400001, -1, 0, 1683729000000LL, -62167219200000LL,
+                                       -62167219200001LL, 253402300799999LL, 253402300800000LL, -1071989683200000LL,
+                                       -1071989683200001LL, 947655244799999LL, 947655244800000LL};
+    static const int64_t across[] = {-1, 0, 86399999, 86400000}, no_labels[] = {-62167219200001LL, 253402300800000LL};
+    static const int64_t outside_last[] = {0, 947655244800000LL}, both_wrong[] = {1, 0, 947655244800000LL};
+    static const int64_t falling[] = {0, 86400000, 86399999}, equal[] = {5, 5};
     size_t i;
     for (i = 0; i < sizeof instants / sizeof *instants; i++)
         instant_row(instants[i]);
@@ -245,7 +273,11 @@ static void instant_rows(void)
     fields_row(2016, 12, 31, 23, 59, 60, 0);
     fields_row(2016, 12, 32, 23, 59, 60, 0);
     fields_row(2016, 12, 31, 24, 0, 0, 0);
+    fields_row(10000, 1, 1, 0, 0, 0, 0);
+    fields_row(-1, 12, 31, 23, 59, 59, 999);
+    fields_row(32000, 13, 1, 0, 0, 0, 0);
     index_row(NULL, across, 4, 4, 4);
+    index_row(NULL, no_labels, 2, 2, 2);
     index_row(NULL, outside_last, 2, 2, 2);
     index_row(NULL, falling, 3, 3, 3);
     index_row(NULL, equal, 2, 2, 2);
@@ -258,6 +290,13 @@ static void label_row(int64_t instant)
 {
     printf("instant %" PRId64 ": label ", instant);
     show_written(plain_write_instant, instant, PAPER_INSTANT_LABEL_BYTES);
+    printf("\n");
+}
+
+static void short_label_row(int64_t instant)
+{
+    printf("instant %" PRId64 " in %d bytes: label ", instant, PAPER_INSTANT_LABEL_BYTES - 1);
+    show_written(plain_write_instant, instant, PAPER_INSTANT_LABEL_BYTES - 1);
     printf("\n");
 }
 
@@ -281,8 +320,14 @@ static void label_rows(void)
     label_row(1683729000000LL);
     label_row(-1);
     label_row(-62167219200000LL);
+    label_row(-62167219200001LL);
     label_row(253402300799999LL);
     label_row(253402300800000LL);
+    label_row(-1071989683200001LL);
+    label_row(947655244800000LL);
+    short_label_row(0);
+    short_label_row(253402300800000LL);
+    short_label_row(947655244800000LL);
     label_read_row("2023-05-10T14:30:00.000Z");
     label_read_row("1969-12-31T23:59:59.999Z");
     label_read_row("2016-12-31T23:59:60.000Z");

@@ -36,11 +36,11 @@ unfolding dayNumber start leaps leapDay leapℕ before monthDays
 day-zero-is-1970 = civil-at (pos 0) (since baseYear (pos 1970)) 1 1 tt tt tt tt refl refl
 
 -- document 01's first day, and the day after its last, which is that of document 02
-day-of-year-zero : civilAnswer (negsuc 719527) ≡ value (dateOf (pos 0) (pos 1) (pos 1))
+pub day-of-year-zero : civilAnswer (negsuc 719527) ≡ value (dateOf (pos 0) (pos 1) (pos 1))
 unfolding dayNumber start leaps leapDay leapℕ before monthDays
 day-of-year-zero = civil-at (negsuc 719527) (since baseYear (pos 0)) 1 1 tt tt tt tt refl refl
 
-day-of-year-10000 : civilAnswer (pos 2932897) ≡ value (dateOf (pos 10000) (pos 1) (pos 1))
+pub day-of-year-10000 : civilAnswer (pos 2932897) ≡ value (dateOf (pos 10000) (pos 1) (pos 1))
 unfolding dayNumber start leaps leapDay leapℕ before monthDays
 day-of-year-10000 = civil-at (pos 2932897) (since baseYear (pos 10000)) 1 1 tt tt tt tt refl refl
 

@@ -1,19 +1,20 @@
-// The first and the last day of every month of the range, to be held to those of an independent program (tools/dates.py):
-// a line for each month, and for each of the two days the year, month and day of its count, the days from the range's
-// first, and the weekday.
+// The first and the last day of every month of every thirteenth year, from the first of the range to the last, to be held to those of
+// an independent program (tools/dates.py): a line for each month, and for each of the two days the year, month and day of its count,
+// the count, and the weekday. Thirteen and 400 have no common divisor, so every year of a cycle of 400 comes up.
 
 use calendar::DateAnswer;
-use calendar::range::FIRST_COUNT;
 use calendar::range::FIRST_YEAR;
 use calendar::range::LAST_YEAR;
 use refusal::NumberAnswer;
 
-// How many years the range has.
-const YEARS: u32 = (LAST_YEAR - FIRST_YEAR + 1) as u32;
+const STEP: u32 = 13;
+
+// How many years are printed.
+const YEARS: u32 = (LAST_YEAR - FIRST_YEAR) as u32 / STEP + 1;
 
 fn main() {
-    for year in 0u32..YEARS {
-        months(year as i64 + FIRST_YEAR);
+    for steps in 0u32..YEARS {
+        months((steps * STEP) as i64 + FIRST_YEAR);
     }
 }
 
@@ -35,12 +36,12 @@ fn ends(year: i64, month: i64) {
     text(b"\n");
 }
 
-// The date of the count of a date, its place in the range and its weekday.
+// The date of the count of a date, the count and its weekday.
 fn day(year: i64, month: i64, day: i64) {
     match calendar::days_from_civil(year, month, day) {
         NumberAnswer::Value(count) => {
             date(calendar::civil_from_days(count));
-            natural(count - FIRST_COUNT);
+            number(count);
             text(b" ");
             weekday(calendar::weekday_from_days(count));
         }
@@ -51,11 +52,11 @@ fn day(year: i64, month: i64, day: i64) {
 fn date(answer: DateAnswer) {
     match answer {
         DateAnswer::Value(date) => {
-            natural(date.year);
+            number(date.year);
             text(b" ");
-            natural(date.month);
+            number(date.month);
             text(b" ");
-            natural(date.day);
+            number(date.day);
             text(b" ");
         }
         DateAnswer::Refused(_) => text(b"refused"),
@@ -64,18 +65,18 @@ fn date(answer: DateAnswer) {
 
 fn weekday(answer: NumberAnswer) {
     match answer {
-        NumberAnswer::Value(n) => natural(n),
+        NumberAnswer::Value(n) => number(n),
         NumberAnswer::Refused(_) => text(b"refused"),
     }
 }
 
-// A number that is not below zero.
-fn natural(n: i64) {
+fn number(n: i64) {
     if n < 0 {
-        text(b"below zero");
-        return;
+        text(b"-");
+        io::print_decimal(libc::STDOUT_FILENO, (-1 - n) as u64 + 1);
+    } else {
+        io::print_decimal(libc::STDOUT_FILENO, n as u64);
     }
-    io::print_decimal(libc::STDOUT_FILENO, n as u64);
 }
 
 fn text(words: &[u8]) {

@@ -1,36 +1,35 @@
 -- The starred rows of document 01, "Numbers to try", as one checked table of theorems about the definitions; then two labels of the
 -- other rows, and rows of document 02.
-use Prim.Native.Nat.{ℕ, _+_, _≤_, _<_}
-use mathlib.Core.Path.{_≡_, refl, sym, ap, _∙_}
-use mathlib.Core.Bool.{false, cond}
+use Prim.Native.Nat.{_≤_}
+use mathlib.Core.Path.{_≡_, refl, ap}
 use mathlib.Core.List.{[], _∷_}
-use lib.Dec.{T, leb, lit≤}
+use lib.Dec.{lit≤}
 use native.Mathlib.Omega.{arith}
-use lib.IntN.{ℤ, pos, negsuc, natAbs, _+ℤ_}
+use lib.IntN.{pos, negsuc, natAbs}
 use Rattle.refusal.specs.Outcome.{value, refused, refusedAt, andThen}
-use Rattle.numbers.specs.Range.{outside, since}
-use Rattle.calendar.specs.Range.{firstCount, lastCount}
+use Rattle.numbers.specs.Range.{since}
+use Rattle.calendar.specs.Range.{firstCount}
 use Rattle.calendar.specs.Gregorian.{dateOf}
 use Rattle.calendar.specs.Count.{dateOfCount, weekday}
 use Rattle.calendar.specs.Answers.{civilAnswer, weekdayAnswer}
-use Rattle.calendar.specs.Closed.{cycle, baseYear, leapDay, leapℕ, leaps, start, monthDays, before, dayNumber, public}
+use Rattle.calendar.specs.Closed.{baseYear, leapDay, leapℕ, leaps, start, monthDays, before, dayNumber}
 use Rattle.calendar.proofs.Laws.{date-at}
-use Rattle.week.specs.Week.{weekDate, weekDateOf}
+use Rattle.calendar.proofs.Epoch.{civil-at, day-of-year-zero, day-of-year-10000}
+use Rattle.week.specs.Week.{weekDate}
 use Rattle.week.specs.Answers.{weekAnswer, weekDaysAnswer}
-use Rattle.week.specs.Closed.{baseCount, firstDay, firstWeek, weeks}
+use Rattle.week.specs.Closed.{firstDay, firstWeek, weeks}
 use Rattle.week.specs.Closed as week
-use Rattle.week.proofs.Years.{thursdayAt}
-use Rattle.week.proofs.Weeks.{weekAt, week-date-at}
+use Rattle.week.proofs.Weeks.{week-date-in}
 use Rattle.week.proofs.Answers.{no-week}
 use Rattle.week.proofs.Laws.{day-is-answered, days-of-week}
 use Rattle.instant.specs.Instant.{dayOf, timeOf, fieldsOf, fieldsAt}
 use Rattle.instant.specs.Answers.{firstBad, firstFall, dayAnswer, splitAnswer, indexDaysAnswer}
-use Rattle.labels.specs.Rfc3339.{numbersText, labelText, instantLabel, readAnswer}
+use Rattle.labels.specs.Rfc3339.{numbersText, fieldsLabel, instantLabel, readAnswer}
 use Rattle.labels.specs.IsoWeek.{weekText, weekDateLabel, weekLabel, readWeekAnswer}
 use Rattle.labels.specs.Webvtt.{positionLabel}
 use Rattle.labels.specs.Timestamps.{positionAnswer}
 use Rattle.labels.specs.Cues.{cueOf, cueLineAnswer}
-use Rattle.labels.proofs.Laws.{write-read}
+use Rattle.labels.proofs.Laws.{write-read, label-exactly}
 use Rattle.labels.proofs.WeekLaws.{write-read-week}
 use Rattle.labels.proofs.CueParts.{cue-line}
 use Rattle.constants.specs.Difference.{exactQuotient, deviceQuotient, differs}
@@ -41,57 +40,41 @@ use Rattle.constants.proofs.Laws.{found-early}
 use Rattle.transport.specs.Answers.{followAnswer}
 use Rattle.transport.specs.declared.Clock.the-variants.{At}
 
--- day z is the date with the year baseYear + y
-on :
-    (z : ℤ) (y m d : ℕ) → T (leb 1 m) → T (leb m 12) → T (leb 1 d) → T (leb d (monthDays (leapDay y) m)) → dayNumber y m d ≡ cycle + since firstCount z →
-    outside firstCount lastCount z ≡ false → civilAnswer z ≡ value (public y m d)
-unfolding civilAnswer dateOfCount
-on z y m d month-low month-high day-low day-high e h =
-    ap (λ t. cond t (refused 4) (value (dateOfCount z))) h
-    ∙ ap value
-    (date-at (since firstCount z) y m d
-    (record { month-low = lit≤ month-low; month-high = lit≤ month-high; day-low = lit≤ day-low; day-high = lit≤ day-high })
-    e)
-
-first-row : civilAnswer (negsuc 719527) ≡ value (dateOf (pos 0) (pos 1) (pos 1))
-unfolding dayNumber start leaps leapDay leapℕ before monthDays
-first-row = on (negsuc 719527) (since baseYear (pos 0)) 1 1 tt tt tt tt refl refl
-
 leap-day-0-row : civilAnswer (negsuc 719468) ≡ value (dateOf (pos 0) (pos 2) (pos 29))
 unfolding dayNumber start leaps leapDay leapℕ before monthDays
-leap-day-0-row = on (negsuc 719468) (since baseYear (pos 0)) 2 29 tt tt tt tt refl refl
+leap-day-0-row = civil-at (negsuc 719468) (since baseYear (pos 0)) 2 29 tt tt tt tt refl refl
 
 after-leap-day-0-row : civilAnswer (negsuc 719467) ≡ value (dateOf (pos 0) (pos 3) (pos 1))
 unfolding dayNumber start leaps leapDay leapℕ before monthDays
-after-leap-day-0-row = on (negsuc 719467) (since baseYear (pos 0)) 3 1 tt tt tt tt refl refl
+after-leap-day-0-row = civil-at (negsuc 719467) (since baseYear (pos 0)) 3 1 tt tt tt tt refl refl
 
 february-1900-row : civilAnswer (negsuc 25508) ≡ value (dateOf (pos 1900) (pos 2) (pos 28))
 unfolding dayNumber start leaps leapDay leapℕ before monthDays
-february-1900-row = on (negsuc 25508) (since baseYear (pos 1900)) 2 28 tt tt tt tt refl refl
+february-1900-row = civil-at (negsuc 25508) (since baseYear (pos 1900)) 2 28 tt tt tt tt refl refl
 
 march-1900-row : civilAnswer (negsuc 25507) ≡ value (dateOf (pos 1900) (pos 3) (pos 1))
 unfolding dayNumber start leaps leapDay leapℕ before monthDays
-march-1900-row = on (negsuc 25507) (since baseYear (pos 1900)) 3 1 tt tt tt tt refl refl
+march-1900-row = civil-at (negsuc 25507) (since baseYear (pos 1900)) 3 1 tt tt tt tt refl refl
 
 before-epoch-row : civilAnswer (negsuc 0) ≡ value (dateOf (pos 1969) (pos 12) (pos 31))
 unfolding dayNumber start leaps leapDay leapℕ before monthDays
-before-epoch-row = on (negsuc 0) (since baseYear (pos 1969)) 12 31 tt tt tt tt refl refl
+before-epoch-row = civil-at (negsuc 0) (since baseYear (pos 1969)) 12 31 tt tt tt tt refl refl
 
 leap-day-2000-row : civilAnswer (pos 11016) ≡ value (dateOf (pos 2000) (pos 2) (pos 29))
 unfolding dayNumber start leaps leapDay leapℕ before monthDays
-leap-day-2000-row = on (pos 11016) (since baseYear (pos 2000)) 2 29 tt tt tt tt refl refl
+leap-day-2000-row = civil-at (pos 11016) (since baseYear (pos 2000)) 2 29 tt tt tt tt refl refl
 
 february-2100-row : civilAnswer (pos 47540) ≡ value (dateOf (pos 2100) (pos 2) (pos 28))
 unfolding dayNumber start leaps leapDay leapℕ before monthDays
-february-2100-row = on (pos 47540) (since baseYear (pos 2100)) 2 28 tt tt tt tt refl refl
+february-2100-row = civil-at (pos 47540) (since baseYear (pos 2100)) 2 28 tt tt tt tt refl refl
 
 march-2100-row : civilAnswer (pos 47541) ≡ value (dateOf (pos 2100) (pos 3) (pos 1))
 unfolding dayNumber start leaps leapDay leapℕ before monthDays
-march-2100-row = on (pos 47541) (since baseYear (pos 2100)) 3 1 tt tt tt tt refl refl
+march-2100-row = civil-at (pos 47541) (since baseYear (pos 2100)) 3 1 tt tt tt tt refl refl
 
 last-row : civilAnswer (pos 2932896) ≡ value (dateOf (pos 9999) (pos 12) (pos 31))
 unfolding dayNumber start leaps leapDay leapℕ before monthDays
-last-row = on (pos 2932896) (since baseYear (pos 9999)) 12 31 tt tt tt tt refl refl
+last-row = civil-at (pos 2932896) (since baseYear (pos 9999)) 12 31 tt tt tt tt refl refl
 
 -- each n up to the difference is asked
 tenth-row : differenceAnswer (pos 1) (pos 0) (pos 10) (pos 26) (pos 0) (pos 8) (pos 0) (pos 4294967295) ≡ value (at 69)
@@ -133,7 +116,7 @@ pub table : StarredRows
 unfolding dayAnswer dayOf weekdayAnswer weekday
 table =
     record {
-      first = (first-row, refl);
+      first = (day-of-year-zero, refl);
       leap-day-0 = leap-day-0-row;
       after-leap-day-0 = after-leap-day-0-row;
       february-1900 = february-1900-row;
@@ -165,7 +148,7 @@ pub instant-label-row :
     instantLabel (pos 1683729000000)
     ≡ value (50 ∷ 48 ∷ 50 ∷ 51 ∷ 45 ∷ 48 ∷ 53 ∷ 45 ∷ 49 ∷ 48 ∷ 84 ∷ 49 ∷ 52 ∷ 58 ∷ 51 ∷ 48 ∷ 58 ∷ 48 ∷ 48 ∷ 46 ∷ 48 ∷ 48 ∷ 48 ∷ 90 ∷ [])
 unfolding instantLabel splitAnswer fieldsOf fieldsAt dayOf timeOf numbersText
-instant-label-row = ap (λ d. value (labelText (fieldsAt d (timeOf (pos 1683729000000))))) day-19487
+instant-label-row = ap (λ d. fieldsLabel (fieldsAt d (timeOf (pos 1683729000000)))) day-19487
 
 -- `2023-05-10t14:30:00.000z`, document 02, request Three
 pub small-letters-row :
@@ -229,55 +212,35 @@ pub fall-row : indexDaysAnswer (pos 0 ∷ pos 86400000 ∷ pos 86399999 ∷ []) 
 unfolding indexDaysAnswer firstBad firstFall
 fall-row = refl
 
-pub bad-instant-row : indexDaysAnswer (pos 1 ∷ pos 0 ∷ pos 253402300800000 ∷ []) (pos 7 ∷ pos 7 ∷ pos 7 ∷ []) ≡ refusedAt 4 2
+pub bad-instant-row : indexDaysAnswer (pos 1 ∷ pos 0 ∷ pos 947655244800000 ∷ []) (pos 7 ∷ pos 7 ∷ pos 7 ∷ []) ≡ refusedAt 4 2
 unfolding indexDaysAnswer firstBad firstFall
 bad-instant-row = refl
 
--- ---- document 02, request Seven: 2023-05-10, 2020-12-31 and 2021-01-01; the first day of the range and the day before it; a week that
--- the year -1 does not have; and a day after the last
-
--- day z, whose week's Thursday lies in the year y, counted from the base of the week dates
-in-week :
-    (z : ℤ) (y : ℕ) → T (leb (firstDay y) (thursdayAt (since baseCount z))) → T (leb (thursdayAt (since baseCount z) + 1) (firstDay (y + 1))) →
-    baseCount +ℤ pos (since baseCount z) ≡ z → weekDateOf z ≡ weekAt (since baseCount z) y
-in-week z y low high e = ap weekDateOf (sym e) ∙ week-date-at (since baseCount z) y (record { low = lit≤ low; high = lt (lit≤ high) })
-  where
-    lt : {a b : ℕ} → a + 1 ≤ b → a < b
-    lt h = omega arith
+-- ---- document 02, request Seven: 2023-05-10, 2020-12-31 and 2021-01-01; day -719528; and a week that the year -1 does not have
 
 pub week-row : weekAnswer (pos 19487) ≡ value (weekDate (pos 2023) (pos 19) (pos 3))
 unfolding weekAnswer firstDay start leaps
-week-row = ap value (in-week (pos 19487) (since week.baseYear (pos 2023)) tt tt refl)
+week-row = ap value (week-date-in (pos 19487) (since week.baseYear (pos 2023)) tt tt refl)
 
 pub week-53-row : weekAnswer (pos 18627) ≡ value (weekDate (pos 2020) (pos 53) (pos 4))
 unfolding weekAnswer firstDay start leaps
-week-53-row = ap value (in-week (pos 18627) (since week.baseYear (pos 2020)) tt tt refl)
+week-53-row = ap value (week-date-in (pos 18627) (since week.baseYear (pos 2020)) tt tt refl)
 
 pub new-year-row : weekAnswer (pos 18628) ≡ value (weekDate (pos 2020) (pos 53) (pos 5))
 unfolding weekAnswer firstDay start leaps
-new-year-row = ap value (in-week (pos 18628) (since week.baseYear (pos 2020)) tt tt refl)
+new-year-row = ap value (week-date-in (pos 18628) (since week.baseYear (pos 2020)) tt tt refl)
 
 pub first-day-row : weekAnswer (negsuc 719527) ≡ value (weekDate (negsuc 0) (pos 52) (pos 6))
 unfolding weekAnswer firstDay start leaps
-first-day-row = ap value (in-week (negsuc 719527) (since week.baseYear (negsuc 0)) tt tt refl)
+first-day-row = ap value (week-date-in (negsuc 719527) (since week.baseYear (negsuc 0)) tt tt refl)
 
 pub first-week-row : weekDaysAnswer (negsuc 0) (pos 52) (pos 6) ≡ value (negsuc 719527)
 first-week-row = days-of-week (negsuc 719527) (weekDate (negsuc 0) (pos 52) (pos 6)) first-day-row
-
-pub day-before-row : weekDaysAnswer (negsuc 0) (pos 52) (pos 5) ≡ refused 4
-unfolding firstDay start leaps
-day-before-row =
-    day-is-answered (negsuc 0) refl (pos 52) (pos 5) (record { day = negsuc 719528; has = in-week (negsuc 719528) (since week.baseYear (negsuc 0)) tt tt refl })
 
 pub no-week-row : weekDaysAnswer (negsuc 0) (pos 53) (pos 1) ≡ refused 16
 unfolding weeks firstWeek firstDay start leaps
 no-week-row =
     no-week {y = since week.baseYear (negsuc 0)} refl refl (lit≤ tt) (lit≤ tt) (pos 53) (pos 1) (λ w d p q h. omega (arith, h .week-high, ap natAbs p))
-
-pub day-after-row : weekDaysAnswer (pos 9999) (pos 52) (pos 6) ≡ refused 4
-unfolding firstDay start leaps
-day-after-row =
-    day-is-answered (pos 9999) refl (pos 52) (pos 6) (record { day = pos 2932897; has = in-week (pos 2932897) (since week.baseYear (pos 9999)) tt tt refl })
 
 -- `2023-W19-3`
 pub week-label-row : weekLabel (pos 19487) ≡ value (50 ∷ 48 ∷ 50 ∷ 51 ∷ 45 ∷ 87 ∷ 49 ∷ 57 ∷ 45 ∷ 51 ∷ [])
@@ -286,3 +249,51 @@ week-label-row = ap (λ o. andThen o weekDateLabel) week-row
 
 pub week-read-row : readWeekAnswer (50 ∷ 48 ∷ 50 ∷ 51 ∷ 45 ∷ 87 ∷ 49 ∷ 57 ∷ 45 ∷ 51 ∷ []) ≡ value (pos 19487)
 week-read-row = write-read-week (pos 19487) _ week-label-row
+
+-- ---- document 02, request Eight: the first and the last day, and the days beside them; 9999-W52-6 and the day after 9999-12-31 are
+-- 10000-01-01; the week dates at both ends; and instants of years that have no label
+
+pub first-of-range-row :
+    (civilAnswer (negsuc 12407287) ≡ value (dateOf (negsuc 31999) (pos 1) (pos 1))) × (weekdayAnswer (negsuc 12407287) ≡ value (pos 6))
+unfolding weekdayAnswer weekday dayNumber start leaps leapDay leapℕ before monthDays
+first-of-range-row = (civil-at (negsuc 12407287) (since baseYear (negsuc 31999)) 1 1 tt tt tt tt refl refl, refl)
+
+pub last-of-range-row : (civilAnswer (pos 10968231) ≡ value (dateOf (pos 31999) (pos 12) (pos 31))) × (weekdayAnswer (pos 10968231) ≡ value (pos 5))
+unfolding weekdayAnswer weekday dayNumber start leaps leapDay leapℕ before monthDays
+last-of-range-row = (civil-at (pos 10968231) (since baseYear (pos 31999)) 12 31 tt tt tt tt refl refl, refl)
+
+pub beside-range-row : (civilAnswer (negsuc 12407288) ≡ refused 4) × (civilAnswer (pos 10968232) ≡ refused 4)
+unfolding civilAnswer
+beside-range-row = (refl, refl)
+
+pub year-10000-row : civilAnswer (pos 2932897) ≡ value (dateOf (pos 10000) (pos 1) (pos 1))
+year-10000-row = day-of-year-10000
+
+pub week-of-10000-row : weekDaysAnswer (pos 9999) (pos 52) (pos 6) ≡ value (pos 2932897)
+unfolding firstDay start leaps
+week-of-10000-row =
+    day-is-answered (pos 9999) refl (pos 52) (pos 6) (record { day = pos 2932897; has = week-date-in (pos 2932897) (since week.baseYear (pos 9999)) tt tt refl })
+
+pub first-week-of-range-row : weekDaysAnswer (negsuc 32000) (pos 52) (pos 6) ≡ value (negsuc 12407287)
+unfolding firstDay start leaps
+first-week-of-range-row =
+    day-is-answered (negsuc 32000) refl (pos 52) (pos 6)
+    (record { day = negsuc 12407287; has = week-date-in (negsuc 12407287) (since week.baseYear (negsuc 32000)) tt tt refl })
+
+pub day-before-row : weekDaysAnswer (negsuc 32000) (pos 52) (pos 5) ≡ refused 4
+unfolding firstDay start leaps
+day-before-row =
+    day-is-answered (negsuc 32000) refl (pos 52) (pos 5)
+    (record { day = negsuc 12407288; has = week-date-in (negsuc 12407288) (since week.baseYear (negsuc 32000)) tt tt refl })
+
+pub day-after-row : weekDaysAnswer (pos 31999) (pos 52) (pos 6) ≡ refused 4
+unfolding firstDay start leaps
+day-after-row =
+    day-is-answered (pos 31999) refl (pos 52) (pos 6)
+    (record { day = pos 10968232; has = week-date-in (pos 10968232) (since week.baseYear (pos 31999)) tt tt refl })
+
+pub no-label-row : (instantLabel (negsuc 62167219200000) ≡ refused 1) × (instantLabel (pos 253402300800000) ≡ refused 1)
+no-label-row = (label-exactly (negsuc 62167219200000), label-exactly (pos 253402300800000))
+
+pub no-instant-row : (instantLabel (negsuc 1071989683200000) ≡ refused 4) × (instantLabel (pos 947655244800000) ≡ refused 4)
+no-instant-row = (label-exactly (negsuc 1071989683200000), label-exactly (pos 947655244800000))

@@ -1,4 +1,4 @@
-// Document 01's rows of the calendar, and its ends.
+// Document 01's rows of the calendar, years below zero, and the ends that document 02, request Eight, gives it.
 
 use super::show::date_answer;
 use super::show::flag_answer;
@@ -29,6 +29,10 @@ fn days() {
     day(2932896);
     day(2932897);
     day(-719529);
+    day(-12407288);
+    day(-12407289);
+    day(10968231);
+    day(10968232);
     day(9223372036854775807);
 }
 
@@ -53,7 +57,14 @@ fn dates() {
     date(2023, 13, 99);
     date(9999, 12, 31);
     date(10000, 1, 1);
-    date(-1, 0, 0);
+    date(-1, 12, 31);
+    date(-4, 2, 29);
+    date(-100, 2, 29);
+    date(-400, 2, 29);
+    date(-32000, 1, 1);
+    date(31999, 12, 31);
+    date(32000, 1, 1);
+    date(-32001, 0, 0);
 }
 
 fn date(year: i64, month: i64, day: i64) {
@@ -77,11 +88,12 @@ fn named(year: i64, month: i64, day: i64) {
 // Shifted dates: out of the range by one day, and by more than 64 bits can add.
 fn shifts() {
     shift(1970, 1, 1, -719528);
-    shift(1970, 1, 1, -719529);
-    shift(0, 1, 1, 3652424);
-    shift(0, 1, 1, 3652425);
-    shift(9999, 12, 31, 9223372036854775807);
-    shift(0, 1, 1, -9223372036854775808);
+    shift(1970, 1, 1, -12407288);
+    shift(1970, 1, 1, -12407289);
+    shift(-32000, 1, 1, 23375519);
+    shift(-32000, 1, 1, 23375520);
+    shift(31999, 12, 31, 9223372036854775807);
+    shift(-32000, 1, 1, -9223372036854775808);
     shift(1900, 2, 29, 0);
 }
 

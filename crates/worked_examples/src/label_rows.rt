@@ -1,4 +1,5 @@
-// Document 01's rows of the two labels, and small letters as document 02, request Three, has them.
+// Document 01's rows of the two labels, small letters as document 02, request Three, has them, and instants of years that have no label,
+// as request Eight does.
 
 use super::show::number;
 use super::show::number_answer;
@@ -10,8 +11,14 @@ pub fn run() {
     written(1683729000000);
     written(-1);
     written(-62167219200000);
+    written(-62167219200001);
     written(253402300799999);
     written(253402300800000);
+    written(-1071989683200001);
+    written(947655244800000);
+    short(0);
+    short(253402300800000);
+    short(947655244800000);
     read(b"2023-05-10T14:30:00.000Z");
     read(b"1969-12-31T23:59:59.999Z");
     read(b"2016-12-31T23:59:60.000Z");
@@ -31,12 +38,21 @@ pub fn run() {
 }
 
 fn written(instant: i64) {
+    let mut out = [b'?'; LENGTH];
+    written_to(instant, b": label ", &mut out);
+}
+
+fn short(instant: i64) {
+    let mut out = [b'?'; LENGTH - 1];
+    written_to(instant, b" in 23 bytes: label ", &mut out);
+}
+
+fn written_to(instant: i64, says: &[u8], out: &mut [u8]) {
     text(b"instant ");
     number(instant);
-    text(b": label ");
-    let mut out = [b'?'; LENGTH];
-    let answer = labels::rfc3339::write_instant(instant, &mut out);
-    written_answer(answer, &out);
+    text(says);
+    let answer = labels::rfc3339::write_instant(instant, out);
+    written_answer(answer, out);
     text(b"\n");
 }
 

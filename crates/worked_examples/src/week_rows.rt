@@ -1,4 +1,5 @@
-// Document 02, request Seven: week dates from counts and back, and their labels; both ends of the range, and what is refused.
+// Document 02, request Seven: week dates from counts and back, and their labels; both ends of the range that request Eight gives the
+// calendar, and of the week years that have labels; and what is refused.
 
 use super::show::number;
 use super::show::number_answer;
@@ -23,8 +24,13 @@ fn dates() {
     date(-719527);
     date(-719526);
     date(2932896);
-    date(-719529);
     date(2932897);
+    date(2932898);
+    date(2932899);
+    date(-12407288);
+    date(-12407289);
+    date(10968231);
+    date(10968232);
 }
 
 fn date(days: i64) {
@@ -42,11 +48,18 @@ fn days() {
     day(-1, 52, 6);
     day(-1, 52, 5);
     day(-1, 53, 1);
-    day(-2, 1, 1);
-    day(10000, 1, 1);
     day(9999, 52, 5);
     day(9999, 52, 6);
     day(9999, 52, 7);
+    day(9999, 53, 1);
+    day(10000, 1, 1);
+    day(-32001, 52, 6);
+    day(-32001, 52, 5);
+    day(-32001, 53, 1);
+    day(-32002, 1, 1);
+    day(31999, 52, 5);
+    day(31999, 52, 6);
+    day(32000, 1, 1);
     day(2021, 53, 1);
     day(2020, 53, 4);
     day(2020, 0, 1);
@@ -66,11 +79,16 @@ fn labels() {
     written(19487);
     written(18627);
     written(18628);
-    written(-719528);
+    written(-719527);
     written(-719526);
-    written(-719529);
     written(2932897);
+    written(2932898);
+    written(2932899);
+    written(-12407289);
+    written(10968232);
     short(19487);
+    short(-719527);
+    short(10968232);
     read(b"2023-W19-3");
     read(b"2020-W53-4");
     read(b"2020-W53-5");
@@ -81,6 +99,8 @@ fn labels() {
     read(b"2023-W01-9");
     read(b"-001-W52-6");
     read(b"9999-W52-6");
+    read(b"9999-W52-7");
+    read(b"9999-W53-1");
     read(b"0000-W01-1");
     read(b"2023-W1-3");
     read(b"10000-W01-1");
