@@ -1,5 +1,6 @@
 -- Day counts by steps: document 01, "The definition of the day count is by steps". The first date has the first count, and the
--- next day has the next count; day 0 is 1970-01-01 (source document 002, the epoch shift).
+-- next day has the next count, so that 0000-01-01 has count -719528 (`year-zero-has-its-count`) and day 0 is 1970-01-01
+-- (`day-zero-is-1970`; source document 002, the epoch shift).
 use Prim.Native.Nat.{ℕ, zero, suc, _+_, _-_}
 use mathlib.Core.Bool.{Bool, cond, _&&_}
 use mathlib.Core.List.{List, [], _∷_}
