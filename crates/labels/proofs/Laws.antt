@@ -7,7 +7,7 @@ use mathlib.Core.List.{List, _++_}
 use native.Mathlib.Nat.{pow-le-pow-right}
 use native.Mathlib.Omega.{arith}
 use lib.Dec.{ltb, lit<}
-use lib.IntN.{ℤ, pos, negsuc, natAbs}
+use lib.IntN.{ℤ, pos, natAbs}
 use lib.ListN.{length, drop}
 use Rattle.refusal.specs.Outcome.{Outcome, value, refused, refusedAt, andThen}
 use Rattle.numbers.specs.Range.{outside}
@@ -26,7 +26,7 @@ use Rattle.instant.specs.declared.Fields.{Fields}
 use Rattle.instant.proofs.Ranges.{instants-of-days, day-inside}
 use Rattle.instant.proofs.Laws.{split-join, join-split}
 use Rattle.labels.specs.Digits.{digits, number, numberAt, fits}
-use Rattle.labels.specs.Years.{firstLabelYear, lastLabelYear, firstLabelInstant, lastLabelInstant}
+use Rattle.labels.specs.Years.{firstLabelYear, lastLabelYear, firstLabelDay, lastLabelDay, firstLabelInstant, lastLabelInstant}
 use Rattle.labels.specs.Rfc3339.{labelLength, decimals, dateText, timeText, numbersText, dateShape, timeShape, labelText, fieldsLabel, instantLabel, readFields, readAnswer}
 use Rattle.labels.specs.Capitals.{inCapitals}
 use Rattle.labels.specs.Parts.{HasRoom, NarrowFields}
@@ -103,9 +103,9 @@ label-years :
     outside firstLabelYear lastLabelYear (fieldsOf instant .year) ≡ outside firstLabelInstant lastLabelInstant instant
 unfolding fieldsOf fieldsAt
 label-years instant h =
-    days-of-years (dayOf instant) (day-inside instant h) firstLabelYear lastLabelYear (negsuc 719527) (pos 2932896) year-zero-has-its-count
+    days-of-years (dayOf instant) (day-inside instant h) firstLabelYear lastLabelYear firstLabelDay lastLabelDay year-zero-has-its-count
     year-10000-has-its-count
-    ∙ instants-of-days (negsuc 719527) (pos 2932896) instant
+    ∙ instants-of-days firstLabelDay lastLabelDay instant
 
 -- the label of an instant, exactly: 4 outside the range, 1 outside document 01's range, else the text of its fields
 pub label-exactly :

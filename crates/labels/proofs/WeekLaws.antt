@@ -24,7 +24,7 @@ use Rattle.week.proofs.OrderLaws.{earlier-week-year}
 use Rattle.week.proofs.Laws.{days-of-week, week-of-days, week-refusal, four-at-the-ends}
 use Rattle.labels.specs.Digits.{digits, numberAt, fits}
 use Rattle.labels.specs.Rfc3339.{dash}
-use Rattle.labels.specs.Years.{firstLabelYear, lastLabelYear, firstLabelDay, lastLabelDay}
+use Rattle.labels.specs.Years.{firstLabelYear, lastLabelYear, firstWeekLabelDay, lastWeekLabelDay}
 use Rattle.labels.specs.IsoWeek.{letterW, weekLength, weekText, weekDateLabel, weekLabel, weekShape, readNumbers, readWeekAnswer}
 use Rattle.labels.proofs.Decimal.{label-year}
 use Rattle.labels.proofs.Shapes.{fits-both, digits-fit, digits-front, mark-front, fits-nothing}
@@ -40,16 +40,16 @@ pub week-label-bytes : weekLength ≡ 10
 week-label-bytes = refl
 
 -- the first days of the week years 0 and 10000
-first-label-week : weekDaysAnswer firstLabelYear (pos 1) (pos 1) ≡ value firstLabelDay
+first-label-week : weekDaysAnswer firstLabelYear (pos 1) (pos 1) ≡ value firstWeekLabelDay
 unfolding weekAnswer firstDay start leaps
 first-label-week =
-    days-of-week firstLabelDay (weekDate firstLabelYear (pos 1) (pos 1)) (ap value (week-date-in firstLabelDay (since baseYear firstLabelYear) tt tt refl))
+    days-of-week firstWeekLabelDay (weekDate firstLabelYear (pos 1) (pos 1)) (ap value (week-date-in firstWeekLabelDay (since baseYear firstLabelYear) tt tt refl))
 
-week-after-labels : weekDaysAnswer (lastLabelYear +ℤ pos 1) (pos 1) (pos 1) ≡ value (lastLabelDay +ℤ pos 1)
+week-after-labels : weekDaysAnswer (lastLabelYear +ℤ pos 1) (pos 1) (pos 1) ≡ value (lastWeekLabelDay +ℤ pos 1)
 unfolding weekAnswer firstDay start leaps
 week-after-labels =
-    days-of-week (lastLabelDay +ℤ pos 1) (weekDate (lastLabelYear +ℤ pos 1) (pos 1) (pos 1))
-    (ap value (week-date-in (lastLabelDay +ℤ pos 1) (since baseYear (lastLabelYear +ℤ pos 1)) tt tt refl))
+    days-of-week (lastWeekLabelDay +ℤ pos 1) (weekDate (lastLabelYear +ℤ pos 1) (pos 1) (pos 1))
+    (ap value (week-date-in (lastWeekLabelDay +ℤ pos 1) (since baseYear (lastLabelYear +ℤ pos 1)) tt tt refl))
 
 -- the label of a day, exactly: 4 outside the range, 1 outside the days of the week years 0 to 9999, else the text of its week date
 module _ (days : ℤ) where
@@ -58,19 +58,19 @@ module _ (days : ℤ) where
 
   pub week-label-exactly :
       weekLabel days
-      ≡ cond (outside firstCount lastCount days) (refused 4) (cond (outside firstLabelDay lastLabelDay days) (refused 1) (value textOf))
+      ≡ cond (outside firstCount lastCount days) (refused 4) (cond (outside firstWeekLabelDay lastWeekLabelDay days) (refused 1) (value textOf))
   unfolding weekLabel weekAnswer
   week-label-exactly = go (outside firstCount lastCount days) refl
     where
       go : (t : Bool) → outside firstCount lastCount days ≡ t →
           andThen (cond t (refused 4) (value (weekDateOf days))) weekDateLabel
-          ≡ cond t (refused 4) (cond (outside firstLabelDay lastLabelDay days) (refused 1) (value textOf))
+          ≡ cond t (refused 4) (cond (outside firstWeekLabelDay lastWeekLabelDay days) (refused 1) (value textOf))
       go true h = refl
       go false h =
           ap (λ t. cond t (refused 1) (value textOf))
-          (outside-as (weekDateOf days .year) firstLabelYear lastLabelYear days firstLabelDay lastLabelDay
-          (earlier-week-year days h firstLabelYear firstLabelDay first-label-week)
-          (earlier-week-year days h (lastLabelYear +ℤ pos 1) (lastLabelDay +ℤ pos 1) week-after-labels))
+          (outside-as (weekDateOf days .year) firstLabelYear lastLabelYear days firstWeekLabelDay lastWeekLabelDay
+          (earlier-week-year days h firstLabelYear firstWeekLabelDay first-label-week)
+          (earlier-week-year days h (lastLabelYear +ℤ pos 1) (lastWeekLabelDay +ℤ pos 1) week-after-labels))
 
 -- a written text has the shape
 text-fits : (year week weekday : ℕ) → fits weekShape (weekText year week weekday) ≡ true

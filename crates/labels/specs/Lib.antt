@@ -1,8 +1,8 @@
 -- What a reader has to believe: the answers, and what they are made of.
 pub mod Digits
 pub mod Clock
-pub mod Rfc3339
 pub mod Years
+pub mod Rfc3339
 pub mod IsoWeek
 pub mod Capitals
 pub mod Webvtt

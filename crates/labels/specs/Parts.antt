@@ -27,7 +27,7 @@ pub record Narrow (year month day hour minute second fraction : ℕ) : Type 0 wh
   pub second-below : second < 10 ^ 2
   pub fraction-below : fraction < 10 ^ decimals
 
--- fields of an instant that have room in the label, whatever the year
+-- fields of an instant of which all but the year have room in the label
 pub record NarrowFields (f : Fields) : Type 0 where
   pub month-within : HasRoom 2 (f .month)
   pub day-within : HasRoom 2 (f .day)

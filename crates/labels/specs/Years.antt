@@ -10,23 +10,30 @@ firstLabelYear = pos 0
 abbrev pub lastLabelYear : ℤ
 lastLabelYear = pos 9999
 
--- What only theorems name: the instants of these years, from day -719528 to day 2932896; `negsuc n` is -(n + 1)
+-- What only theorems name. The days of these years, which are document 01's; `negsuc n` is -(n + 1)
+abbrev pub firstLabelDay : ℤ
+firstLabelDay = negsuc 719527
+
+abbrev pub lastLabelDay : ℤ
+lastLabelDay = pos 2932896
+
+-- their instants, from the first of the first day to the last of the last
 abbrev pub firstLabelInstant : ℤ
-firstLabelInstant = negsuc 719527 *ℤ pos perDay
+firstLabelInstant = firstLabelDay *ℤ pos perDay
 
 abbrev pub lastLabelInstant : ℤ
-lastLabelInstant = pos 2932896 *ℤ pos perDay +ℤ pos (perDay - 1)
+lastLabelInstant = lastLabelDay *ℤ pos perDay +ℤ pos (perDay - 1)
 
--- these are document 01's first and last instant
+-- these are document 01's numbers
 pub first-label-is : firstLabelInstant ≡ negsuc 62167219199999
 first-label-is = refl
 
 pub last-label-is : lastLabelInstant ≡ pos 253402300799999
 last-label-is = refl
 
--- and the days of these week years, from 0000-01-03, a Monday, to 10000-01-02, a Sunday
-abbrev pub firstLabelDay : ℤ
-firstLabelDay = negsuc 719525
+-- the days of these week years, from 0000-01-03, a Monday, to 10000-01-02, a Sunday
+abbrev pub firstWeekLabelDay : ℤ
+firstWeekLabelDay = negsuc 719525
 
-abbrev pub lastLabelDay : ℤ
-lastLabelDay = pos 2932898
+abbrev pub lastWeekLabelDay : ℤ
+lastWeekLabelDay = pos 2932898
