@@ -33,6 +33,11 @@ demo: $(EXAMPLES)
 
 test: test-dates test-edits test-declarations test-c test-labels test-weeks test-stack test-examples test-install test-rust test-readme
 
+# The programs that print what the archive answers, for a test to compare.
+build/tests/%: tests/c/%.c include/ovenquill.h $(LIB)
+	mkdir -p build/tests
+	$(CC) $(CFLAGS) -std=c99 -Iinclude $< $(LIB) -o $@
+
 # The expected output of the program `dates` is what an independent program prints today.
 test-dates:
 	python3 tools/dates.py | cmp - crates/dates/stdout
@@ -58,8 +63,8 @@ test-labels: $(LIB)
 	tests/test_labels.py $(LIB)
 
 # Every week date against Python's.
-test-weeks: $(LIB)
-	tests/test_weeks.py $(LIB)
+test-weeks: build/tests/all_weeks
+	tests/test_weeks.py build/tests/all_weeks
 
 test-stack: $(LIB)
 	tests/test_stack.py $(LIB)
