@@ -229,7 +229,10 @@ static inline const char *ovenquill_refusal_text(int64_t answer)
     }
 }
 
-/* A date: month OVENQUILL_FIRST_MONTH to OVENQUILL_LAST_MONTH, day 1 to the length of the month. */
+/*
+ * A date: year OVENQUILL_FIRST_YEAR, which is below zero, to OVENQUILL_LAST_YEAR, month OVENQUILL_FIRST_MONTH to
+ * OVENQUILL_LAST_MONTH, day 1 to the length of the month.
+ */
 typedef struct ovenquill_date {
     int64_t year;
     int64_t month;
