@@ -61,7 +61,7 @@ test-declarations:
 test-c: $(LIB)
 	tests/c/run $(LIB)
 
-# The reader of instant labels against one in Python.
+# The reader and the writer of instant labels against those in Python.
 test-labels: $(LIB)
 	tests/test_labels.py $(LIB)
 

@@ -529,7 +529,7 @@ static void check_week_labels(void)
     check_unread_week("2023-w00-8", OVENQUILL_MALFORMED_LABEL);
 }
 
-/* A day count that is outside the range, as each number that it can be. */
+/* A day count that is outside the range, in each call that takes one or leads to one. */
 static void check_refused_count(int64_t count)
 {
     ovenquill_date date = {7, 7, 7};
@@ -542,7 +542,7 @@ static void check_refused_count(int64_t count)
     same("the week date that a refused count leaves", count, week.year == 7 && week.week == 7 && week.weekday == 7, 1);
 }
 
-/* A year that is outside the range; the month, the day and the hour beside it are wrong too where there is room. */
+/* A year that is outside the range comes before whatever else is wrong in a call. */
 static void check_refused_year(int64_t year)
 {
     ovenquill_date date = {7, 7, 7};
@@ -605,7 +605,7 @@ static void check_museum_years(void)
     check_no_leap_day(31999);
 }
 
-/* An instant's date, whose time of day is the first of the day or the last, each led to the other, and its day. */
+/* An instant that is the first or the last of its day: that day, its date and time, and the instant of these. */
 static void check_split(int64_t instant, int64_t count, int64_t year, int64_t month, int64_t day, int is_last)
 {
     const int64_t hour = is_last ? 23 : 0, minute = is_last ? 59 : 0, millisecond = is_last ? 999 : 0;
