@@ -33,9 +33,17 @@ demo: $(EXAMPLES)
 
 test: test-dates test-edits test-declarations test-c test-labels test-weeks test-stack test-examples test-install test-rust test-readme
 
-# The expected output of the program `dates` is what an independent program prints today.
-test-dates:
-	python3 tools/dates.py | cmp - crates/dates/stdout
+# The programs that print what the archive answers, for a test to compare.
+build/tests/%: tests/c/%.c include/ovenquill.h $(LIB)
+	mkdir -p build/tests
+	$(CC) $(CFLAGS) -std=c99 -Iinclude $< $(LIB) -o $@
+
+# The expected output of the program `dates`, which has every 13th year and so each of the 400 of a cycle, is what an independent
+# program prints today. Of every year that one prints what the archive answers.
+test-dates: build/tests/all_dates
+	python3 tools/dates.py 13 | cmp - crates/dates/stdout
+	build/tests/all_dates > build/tests/dates
+	python3 tools/dates.py | cmp - build/tests/dates
 
 # Every must-fail edit still fits the files that it changes, and the tool that says so sees a fault. Whether the edits are refused is
 # for `rt must-fail` to say, and whether each function that they change is, for `tools/check_edits --refused`. The benchmarks' own
@@ -53,13 +61,13 @@ test-declarations:
 test-c: $(LIB)
 	tests/c/run $(LIB)
 
-# The reader of instant labels against one in Python.
+# The reader and the writer of instant labels against those in Python.
 test-labels: $(LIB)
 	tests/test_labels.py $(LIB)
 
 # Every week date against Python's.
-test-weeks: $(LIB)
-	tests/test_weeks.py $(LIB)
+test-weeks: build/tests/all_weeks
+	tests/test_weeks.py build/tests/all_weeks
 
 test-stack: $(LIB)
 	tests/test_stack.py $(LIB)

@@ -5,9 +5,9 @@
  *     player < FILE                 one instant to a line; empty lines are passed over
  *
  * An instant is a whole number of milliseconds from 1970-01-01 00:00 UTC. Standard output has labels and nothing else: a line or
- * an argument that is no instant, or whose instant is refused, gets a message with its number on standard error, and the others
- * still get their labels. The exit status is 1 where an instant was bad or refused, or where not everything could be read or
- * written.
+ * an argument that is no instant, or whose instant is refused, as one whose year has no label is, gets a message with its number on
+ * standard error, and the others still get their labels. The exit status is 1 where an instant was bad or refused, or where not
+ * everything could be read or written.
  */
 #include <errno.h>
 #include <inttypes.h>

@@ -39,33 +39,38 @@ extern "C" {
 
 /* The version of this header, in numbers and as a string. */
 #define OVENQUILL_VERSION_MAJOR 0
-#define OVENQUILL_VERSION_MINOR 7
-#define OVENQUILL_VERSION_PATCH 1
+#define OVENQUILL_VERSION_MINOR 8
+#define OVENQUILL_VERSION_PATCH 0
 #define OVENQUILL_VERSION OVENQUILL_DOTTED_(OVENQUILL_VERSION_MAJOR, OVENQUILL_VERSION_MINOR, OVENQUILL_VERSION_PATCH)
 #define OVENQUILL_DOTTED_(major, minor, patch) OVENQUILL_STRING_(major.minor.patch)
 #define OVENQUILL_STRING_(tokens) #tokens
 
-/* Ranges, ends included. A name that ends in _ has the bare digits, for the texts of the refusals. */
+/*
+ * Ranges, ends included. A name that ends in _ has the bare digits, for the texts of the refusals. INT64_C takes no sign: a
+ * number below zero has the digits of its negation.
+ */
 #define OVENQUILL_NUMBER_(digits) INT64_C(digits)
 #define OVENQUILL_TEXT_(digits) OVENQUILL_STRING_(digits)
 #define OVENQUILL_RANGE_TEXT_(first, last) OVENQUILL_STRING_(first) ".." OVENQUILL_STRING_(last)
 
-/* Years. The calendar ends with the last day of the last year. */
-#define OVENQUILL_FIRST_YEAR_ 0
-#define OVENQUILL_LAST_YEAR_ 9999
-#define OVENQUILL_FIRST_YEAR OVENQUILL_NUMBER_(OVENQUILL_FIRST_YEAR_)
+/*
+ * Years. The calendar begins with the first day of the first year and ends with the last day of the last one. Year 0 is the one
+ * before year 1, and -1 the one before year 0, as in astronomy and ISO 8601: 44 BC is year -43.
+ */
+#define OVENQUILL_NEGATED_FIRST_YEAR_ 32000
+#define OVENQUILL_LAST_YEAR_ 31999
+#define OVENQUILL_FIRST_YEAR (-OVENQUILL_NUMBER_(OVENQUILL_NEGATED_FIRST_YEAR_))
 #define OVENQUILL_LAST_YEAR OVENQUILL_NUMBER_(OVENQUILL_LAST_YEAR_)
 
-/*
- * Week years, of ISO 8601 week dates: the first days of the calendar lie in a week of the year before it. And the week years
- * that a label's four digits can tell.
- */
-#define OVENQUILL_FIRST_WEEK_YEAR_ -1
+/* Week years, of ISO 8601 week dates: the first days of the calendar lie in a week of the year before it. */
+#define OVENQUILL_NEGATED_FIRST_WEEK_YEAR_ 32001
 #define OVENQUILL_LAST_WEEK_YEAR_ OVENQUILL_LAST_YEAR_
+#define OVENQUILL_FIRST_WEEK_YEAR (-OVENQUILL_NUMBER_(OVENQUILL_NEGATED_FIRST_WEEK_YEAR_))
+#define OVENQUILL_LAST_WEEK_YEAR OVENQUILL_NUMBER_(OVENQUILL_LAST_WEEK_YEAR_)
+
+/* What the four digits of a label can tell: the years of instant labels, and the week years of week labels. */
 #define OVENQUILL_FIRST_LABEL_YEAR_ 0
 #define OVENQUILL_LAST_LABEL_YEAR_ 9999
-#define OVENQUILL_FIRST_WEEK_YEAR (OVENQUILL_FIRST_YEAR - 1)
-#define OVENQUILL_LAST_WEEK_YEAR OVENQUILL_NUMBER_(OVENQUILL_LAST_WEEK_YEAR_)
 #define OVENQUILL_FIRST_LABEL_YEAR OVENQUILL_NUMBER_(OVENQUILL_FIRST_LABEL_YEAR_)
 #define OVENQUILL_LAST_LABEL_YEAR OVENQUILL_NUMBER_(OVENQUILL_LAST_LABEL_YEAR_)
 
@@ -86,8 +91,8 @@ extern "C" {
 #define OVENQUILL_LAST_MILLISECOND OVENQUILL_NUMBER_(OVENQUILL_LAST_MILLISECOND_)
 
 /* Day counts: days from 1970-01-01, below zero before it. */
-#define OVENQUILL_FIRST_COUNT (-INT64_C(719528))
-#define OVENQUILL_LAST_COUNT INT64_C(2932896)
+#define OVENQUILL_FIRST_COUNT (-INT64_C(12407288))
+#define OVENQUILL_LAST_COUNT INT64_C(10968231)
 
 /* Instants: milliseconds from 1970-01-01 00:00 UTC, below zero before it. Every day has as many; there are no leap seconds. */
 #define OVENQUILL_INSTANTS_PER_DAY                                             \
@@ -177,9 +182,9 @@ static inline const char *ovenquill_refusal_text(int64_t answer)
 {
     switch (answer) {
     case OVENQUILL_YEAR_OUT_OF_RANGE:
-        return "year outside " OVENQUILL_RANGE_TEXT_(OVENQUILL_FIRST_YEAR_, OVENQUILL_LAST_YEAR_)
-               ", or week year outside "
-               OVENQUILL_RANGE_TEXT_(OVENQUILL_FIRST_WEEK_YEAR_, OVENQUILL_LAST_WEEK_YEAR_) ", in a label "
+        return "year outside -" OVENQUILL_RANGE_TEXT_(OVENQUILL_NEGATED_FIRST_YEAR_, OVENQUILL_LAST_YEAR_)
+               ", or week year outside -"
+               OVENQUILL_RANGE_TEXT_(OVENQUILL_NEGATED_FIRST_WEEK_YEAR_, OVENQUILL_LAST_WEEK_YEAR_) ", in a label "
                OVENQUILL_RANGE_TEXT_(OVENQUILL_FIRST_LABEL_YEAR_, OVENQUILL_LAST_LABEL_YEAR_);
     case OVENQUILL_MONTH_OUT_OF_RANGE:
         return "month outside " OVENQUILL_RANGE_TEXT_(OVENQUILL_FIRST_MONTH_, OVENQUILL_LAST_MONTH_);
@@ -224,7 +229,10 @@ static inline const char *ovenquill_refusal_text(int64_t answer)
     }
 }
 
-/* A date: month OVENQUILL_FIRST_MONTH to OVENQUILL_LAST_MONTH, day 1 to the length of the month. */
+/*
+ * A date: year OVENQUILL_FIRST_YEAR, which is below zero, to OVENQUILL_LAST_YEAR, month OVENQUILL_FIRST_MONTH to
+ * OVENQUILL_LAST_MONTH, day 1 to the length of the month.
+ */
 typedef struct ovenquill_date {
     int64_t year;
     int64_t month;
@@ -273,7 +281,10 @@ typedef struct ovenquill_clock {
 
 #define OVENQUILL_CLOCK_START {0, 0}
 
-/* The calendar: Gregorian, run backwards without a break; year 0 is leap. */
+/*
+ * The calendar: Gregorian, run backwards without a break; years 0, -4 and -400 are leap, -1 and -100 are not. Most sources date
+ * the days before October 1582 by the Julian calendar, in which the same date is another day.
+ */
 
 /*
  * The day count of a date. Writes it to `days` and answers 0.
@@ -417,21 +428,26 @@ int64_t ovenquill_join_instant(int64_t year, int64_t month, int64_t day, int64_t
  */
 int64_t ovenquill_index_days(const int64_t *instants, size_t count, int32_t *days, size_t days_length, int64_t *place);
 
-/* Instant labels: YYYY-MM-DDTHH:MM:SS.mmmZ, a form of RFC 3339. The T and the Z are written as capitals. */
+/*
+ * Instant labels: YYYY-MM-DDTHH:MM:SS.mmmZ, a form of RFC 3339. The T and the Z are written as capitals. An instant of a year
+ * that four digits cannot tell has no label; ovenquill_split_instant gives its date and its time of day.
+ */
 
 /*
  * Writes the label of an instant to the front of `out`, and answers the bytes written, OVENQUILL_INSTANT_LABEL_BYTES. The
  * bytes after them are unchanged.
  *
  * Refusals, after which no byte of `out` is changed:
- *   OVENQUILL_OUT_OF_RANGE       instant outside OVENQUILL_FIRST_INSTANT to OVENQUILL_LAST_INSTANT
- *   OVENQUILL_BUFFER_TOO_SHORT   length below OVENQUILL_INSTANT_LABEL_BYTES
+ *   OVENQUILL_OUT_OF_RANGE        instant outside OVENQUILL_FIRST_INSTANT to OVENQUILL_LAST_INSTANT
+ *   OVENQUILL_YEAR_OUT_OF_RANGE   year outside OVENQUILL_FIRST_LABEL_YEAR to OVENQUILL_LAST_LABEL_YEAR
+ *   OVENQUILL_BUFFER_TOO_SHORT    length below OVENQUILL_INSTANT_LABEL_BYTES
  */
 int64_t ovenquill_write_instant(int64_t instant, uint8_t *out, size_t length);
 
 /*
  * Reads a label, whose T and Z may each be a capital or small. Writes its instant to `instant` and answers 0. What it reads,
- * with the two letters as capitals, is what ovenquill_write_instant writes for that instant, byte for byte.
+ * with the two letters as capitals, is what ovenquill_write_instant writes for that instant, byte for byte. No label is out of
+ * range: the calendar has every year of four digits.
  *
  * Refusals, after which `instant` is unchanged:
  *   OVENQUILL_MALFORMED_LABEL      length other than OVENQUILL_INSTANT_LABEL_BYTES, a byte that is no decimal digit where one
@@ -443,7 +459,11 @@ int64_t ovenquill_write_instant(int64_t instant, uint8_t *out, size_t length);
  */
 int64_t ovenquill_read_instant(const uint8_t *label, size_t length, int64_t *instant);
 
-/* Week labels: YYYY-Www-D, the form of ISO 8601, with the week year, a capital W, the week and the weekday. */
+/*
+ * Week labels: YYYY-Www-D, the form of ISO 8601, with the week year, a capital W, the week and the weekday. A day of a week year
+ * that four digits cannot tell has no label; ovenquill_week_from_days gives its week date. It is the week year that counts:
+ * 0000-01-01 lies in the week year -1 and has no label, and 10000-01-01 lies in the week year 9999 and has one, 9999-W52-6.
+ */
 
 /*
  * Writes the week label of a day count to the front of `out`, and answers the bytes written, OVENQUILL_WEEK_LABEL_BYTES. The
@@ -451,21 +471,19 @@ int64_t ovenquill_read_instant(const uint8_t *label, size_t length, int64_t *ins
  *
  * Refusals, after which no byte of `out` is changed:
  *   OVENQUILL_OUT_OF_RANGE        days outside OVENQUILL_FIRST_COUNT to OVENQUILL_LAST_COUNT
- *   OVENQUILL_YEAR_OUT_OF_RANGE   week year outside OVENQUILL_FIRST_LABEL_YEAR to OVENQUILL_LAST_LABEL_YEAR, as that
- *                                 of the calendar's first two days, which lie in the week year -1
+ *   OVENQUILL_YEAR_OUT_OF_RANGE   week year outside OVENQUILL_FIRST_LABEL_YEAR to OVENQUILL_LAST_LABEL_YEAR
  *   OVENQUILL_BUFFER_TOO_SHORT    length below OVENQUILL_WEEK_LABEL_BYTES
  */
 int64_t ovenquill_write_week(int64_t days, uint8_t *out, size_t length);
 
 /*
  * Reads a week label. Writes its day count to `days` and answers 0. What it reads is what ovenquill_write_week writes for that
- * count, byte for byte.
+ * count, byte for byte. No label is out of range: the calendar has every day of the week years of four digits.
  *
  * Refusals, after which `days` is unchanged:
  *   OVENQUILL_MALFORMED_LABEL     length other than OVENQUILL_WEEK_LABEL_BYTES, a byte that is no decimal digit where one must
  *                                 stand, or a wrong mark, as a sign or a small w is
  *   OVENQUILL_WEEK_OUT_OF_RANGE   week 00, or above 52, but for 53 in a year that has it; or weekday 0, 8 or 9
- *   OVENQUILL_OUT_OF_RANGE        a day after OVENQUILL_LAST_COUNT
  */
 int64_t ovenquill_read_week(const uint8_t *label, size_t length, int64_t *days);
 

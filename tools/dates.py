@@ -1,14 +1,18 @@
 #!/usr/bin/env python3
 """Prints the first and the last day of every month of the calendar, from Python's datetime.
 
+    dates.py [STEP]      those of every STEP-th year, from the first year on; of every year without it
+
 A line for each month; for each of the two days: year, month, day, the days from the first day of the first year, and the
-weekday as ISO 8601 numbers it. Shares nothing with the library: it is what the program `dates` is held to. A year that
-datetime does not have is moved by cycles of 400 years into those that it has; a cycle is 146097 days, which are whole weeks.
+weekday as ISO 8601 numbers it. Shares nothing with the library: it is what the program `dates` and tests/c/all_dates.c are
+held to. A year that datetime does not have is moved by cycles of 400 years into those that it has; a cycle is 146097 days,
+which are whole weeks.
 """
+import sys
 from datetime import MAXYEAR, MINYEAR, date, timedelta
 
-# Document 01, "Calendar rules".
-FIRST_YEAR, LAST_YEAR = 0, 9999
+# Document 02, request Eight.
+FIRST_YEAR, LAST_YEAR = -32000, 31999
 
 CYCLE_YEARS, CYCLE_DAYS = 400, 146097
 
@@ -37,14 +41,18 @@ FIRST_CYCLES = cycles_into_datetime(FIRST_YEAR)
 FIRST = ordinal(date(FIRST_YEAR + CYCLE_YEARS * FIRST_CYCLES, 1, 1), FIRST_CYCLES)
 
 
-def main():
-    for year in range(FIRST_YEAR, LAST_YEAR + 1):
+def lines(step):
+    for year in range(FIRST_YEAR, LAST_YEAR + 1, step):
         cycles = cycles_into_datetime(year)
         for month in range(1, 13):
             first = date(year + CYCLE_YEARS * cycles, month, 1)
             # the last day of a month is the one before the next month's first; December has 31 days
             last = first.replace(day=31) if month == 12 else first.replace(month=month + 1) - timedelta(days=1)
-            print(shown(first, cycles), shown(last, cycles))
+            yield f"{shown(first, cycles)} {shown(last, cycles)}"
 
 
-main()
+def main(step=1):
+    print("\n".join(lines(int(step))))
+
+
+main(*sys.argv[1:])

@@ -1,37 +1,56 @@
 /*
- * Prints what the library answers about week dates, for tests/test_weeks.py: a row for each day of the calendar, and one for each of
- * the first and the last week dates of each week year. Compiled as C and as C++.
+ * Writes what the library answers about week dates to standard output, for tests/test_weeks.py: for each cycle of 400 years the
+ * numbers of its days, one kind after the other, and then their labels; and at last the days of the first and the last week dates of
+ * each week year. Numbers are int32_t as the machine has them. Compiled as C and as C++.
  */
-#include <inttypes.h>
 #include <stdio.h>
 #include <string.h>
 
 #include "ovenquill.h"
 
+#define COUNT(array) (sizeof(array) / sizeof(array)[0])
+
+/* The days of 400 years. */
+#define CYCLE 146097
+
 /* What a place holds that a refused call leaves as it was. */
 #define UNCHANGED 77
 
-/* A day, its week date, the day of that, its label, the day that is read from it, and what the four calls answered. */
-static void day_row(int64_t days)
+/* The week date of a day, the day of that, and the day that is read from its label, with what the four calls answered. */
+enum number { YEAR, WEEK, WEEKDAY, WEEK_ANSWER, AGAIN, AGAIN_ANSWER, WRITE_ANSWER, READ, READ_ANSWER, NUMBERS };
+
+static int32_t numbers[NUMBERS][CYCLE];
+static uint8_t labels[CYCLE][OVENQUILL_WEEK_LABEL_BYTES];
+
+/* A number that 32 bits do not hold is none that is right. */
+static int32_t narrow(int64_t n)
 {
-    ovenquill_week_date week = {UNCHANGED, UNCHANGED, UNCHANGED};
-    uint8_t label[OVENQUILL_WEEK_LABEL_BYTES];
-    int64_t answers[4], again = UNCHANGED, read = UNCHANGED;
-    memset(label, '?', sizeof label);
-    answers[0] = ovenquill_week_from_days(days, &week);
-    answers[1] = ovenquill_days_from_week(week.year, week.week, week.weekday, &again);
-    answers[2] = ovenquill_write_week(days, label, sizeof label);
-    answers[3] = ovenquill_read_week(label, sizeof label, &read);
-    printf("%" PRId64 ": %04" PRId64 "-W%02" PRId64 "-%" PRId64 " %" PRId64, days, week.year, week.week, week.weekday, again);
-    printf(" %.*s %" PRId64 ", answers", (int)sizeof label, (const char *)label, read);
-    printf(" %" PRId64 " %" PRId64 " %" PRId64 " %" PRId64 "\n", answers[0], answers[1], answers[2], answers[3]);
+    return n < INT32_MIN || n > INT32_MAX ? INT32_MIN : (int32_t)n;
 }
 
-/* A week date, its day, and what the call answered. */
-static void week_date_row(int64_t year, int64_t week, int64_t weekday)
+static void fill(int64_t days, size_t place)
+{
+    ovenquill_week_date week = {UNCHANGED, UNCHANGED, UNCHANGED};
+    uint8_t *label = labels[place];
+    int64_t again = UNCHANGED, read = UNCHANGED;
+    memset(label, '?', OVENQUILL_WEEK_LABEL_BYTES);
+    numbers[WEEK_ANSWER][place] = narrow(ovenquill_week_from_days(days, &week));
+    numbers[AGAIN_ANSWER][place] = narrow(ovenquill_days_from_week(week.year, week.week, week.weekday, &again));
+    numbers[WRITE_ANSWER][place] = narrow(ovenquill_write_week(days, label, OVENQUILL_WEEK_LABEL_BYTES));
+    numbers[READ_ANSWER][place] = narrow(ovenquill_read_week(label, OVENQUILL_WEEK_LABEL_BYTES, &read));
+    numbers[YEAR][place] = narrow(week.year);
+    numbers[WEEK][place] = narrow(week.week);
+    numbers[WEEKDAY][place] = narrow(week.weekday);
+    numbers[AGAIN][place] = narrow(again);
+    numbers[READ][place] = narrow(read);
+}
+
+/* The day of a week date, and what the call answered. */
+static void write_week_date(int64_t year, int64_t week, int64_t weekday)
 {
     int64_t days = UNCHANGED, answer = ovenquill_days_from_week(year, week, weekday, &days);
-    printf("%" PRId64 " %" PRId64 " %" PRId64 ": %" PRId64 ", answer %" PRId64 "\n", year, week, weekday, days, answer);
+    const int32_t pair[2] = {narrow(days), narrow(answer)};
+    fwrite(pair, sizeof pair, 1, stdout);
 }
 
 int main(void)
@@ -39,13 +58,17 @@ int main(void)
     /* the calendar ends on a Friday and begins on a Saturday */
     static const int64_t weekdays[] = {0, OVENQUILL_MONDAY, OVENQUILL_FRIDAY, OVENQUILL_SATURDAY, OVENQUILL_SUNDAY, 8};
     static const int64_t weeks[] = {0, 1, 52, 53, 54};
-    int64_t days, year;
+    int64_t first, year;
     size_t i, j;
-    for (days = OVENQUILL_FIRST_COUNT; days <= OVENQUILL_LAST_COUNT; days++)
-        day_row(days);
+    for (first = OVENQUILL_FIRST_COUNT; first <= OVENQUILL_LAST_COUNT; first += CYCLE) {
+        for (i = 0; i < CYCLE; i++)
+            fill(first + (int64_t)i, i);
+        fwrite(numbers, sizeof numbers, 1, stdout);
+        fwrite(labels, sizeof labels, 1, stdout);
+    }
     for (year = OVENQUILL_FIRST_WEEK_YEAR - 1; year <= OVENQUILL_LAST_WEEK_YEAR + 1; year++)
-        for (i = 0; i < sizeof weeks / sizeof *weeks; i++)
-            for (j = 0; j < sizeof weekdays / sizeof *weekdays; j++)
-                week_date_row(year, weeks[i], weekdays[j]);
-    return 0;
+        for (i = 0; i < COUNT(weeks); i++)
+            for (j = 0; j < COUNT(weekdays); j++)
+                write_week_date(year, weeks[i], weekdays[j]);
+    return fflush(stdout) != 0 || ferror(stdout);
 }

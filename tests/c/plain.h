@@ -1,6 +1,6 @@
 /*
- * Document 01 and change requests One, Three, Four, Five, Six and Seven in plain C, written from their text and sharing nothing
- * with the library: years are counted one by one, weeks by their Thursdays, the day of a week date is searched for, labels go by
+ * Document 01 and change requests One and Three to Eight in plain C, written from their text and sharing nothing with the
+ * library: years are counted one by one, weeks by their Thursdays, the day of a week date is searched for, labels go by
  * snprintf, the readers of instants and week dates go byte by byte, those of timestamps and cue lines take one part after the
  * other, the constants go by trying every n, and a step of the transport clock by trying three. Each call here has the answer, and
  * leaves in what it is lent the bytes, that the library's call of the same name must have and leave: a date and a week date are
@@ -12,12 +12,13 @@
 #include <stddef.h>
 #include <stdint.h>
 
-/* Document 01's numbers, in the order of its sections. */
+/* Document 01's numbers, in the order of its sections; the range is change request Eight's. */
 
-#define PAPER_FIRST_YEAR 0
-#define PAPER_LAST_YEAR 9999
-#define PAPER_FIRST_COUNT (-719528)
-#define PAPER_LAST_COUNT 2932896
+#define PAPER_YEAR_ZERO_COUNT (-719528)
+#define PAPER_FIRST_YEAR (-32000)
+#define PAPER_LAST_YEAR 31999
+#define PAPER_FIRST_COUNT (-12407288)
+#define PAPER_LAST_COUNT 10968231
 
 /* As change request Four numbers them. */
 enum paper_weekday { MONDAY = 1, TUESDAY, WEDNESDAY, THURSDAY, FRIDAY, SATURDAY, SUNDAY };
@@ -54,11 +55,18 @@ static const struct constants paper_most = {1023, 1023, 1048575, 4294967295LL, 4
 #define PAPER_LAST_CLOCK_POSITION 9007199254740992LL
 #define PAPER_TICKS_PER_MILLISECOND 90
 
-/* Change request Seven's: the week years that are given and taken, and those of labels. */
-#define PAPER_FIRST_WEEK_YEAR (-1)
-#define PAPER_LAST_WEEK_YEAR 9999
+/*
+ * Change requests Seven's and Eight's: the week years that are given and taken, the years and week years of labels, and the days
+ * and instants of these years.
+ */
+#define PAPER_FIRST_WEEK_YEAR (-32001)
+#define PAPER_LAST_WEEK_YEAR 31999
 #define PAPER_FIRST_LABEL_YEAR 0
 #define PAPER_LAST_LABEL_YEAR 9999
+#define PAPER_FIRST_LABEL_DAY PAPER_YEAR_ZERO_COUNT
+#define PAPER_LAST_LABEL_DAY 2932896
+#define PAPER_FIRST_LABEL_INSTANT (PAPER_FIRST_LABEL_DAY * PAPER_DAY)
+#define PAPER_LAST_LABEL_INSTANT ((PAPER_LAST_LABEL_DAY + 1) * PAPER_DAY - 1)
 #define PAPER_WEEK_LABEL "%04d-W%02d-%d"
 #define PAPER_WEEK_LABEL_BYTES 10
 
@@ -67,6 +75,12 @@ int64_t plain_month_length(int64_t year, int64_t month);
 
 /* The weekday of any day, in the range or not. */
 int64_t plain_any_weekday(int64_t days);
+
+/* The count of the first day of a year: one of the range, or one of the two before it or after it. */
+int64_t plain_year_start(int64_t year);
+
+/* The year of a day of these years, but for the last of them. */
+int64_t plain_year_of(int64_t days);
 
 int64_t plain_days_from_civil(int64_t year, int64_t month, int64_t day, int64_t *days);
 int64_t plain_civil_from_days(int64_t days, int64_t *date);

@@ -1,4 +1,4 @@
-/* The calendar: document 01, "Calendar rules". */
+/* The calendar: document 01, "Calendar rules", in change request Eight's range. */
 #include "plain.h"
 
 static int leap(int64_t year)
@@ -12,17 +12,31 @@ int64_t plain_month_length(int64_t year, int64_t month)
     return month == 2 && leap(year) ? 29 : lengths[month - 1];
 }
 
-/* The count of the first day of a year, from the first year to the one after the last, counted year by year. */
-static int64_t year_start(int64_t year)
+/* Counted year by year, forwards and backwards from year 0. */
+int64_t plain_year_start(int64_t year)
 {
-    static int64_t starts[PAPER_LAST_YEAR - PAPER_FIRST_YEAR + 2];
-    if (starts[0] == 0) {
+    static int64_t starts[PAPER_LAST_YEAR - PAPER_FIRST_YEAR + 5];
+    int64_t *const of_year = starts + 2 - PAPER_FIRST_YEAR;
+    if (of_year[0] == 0) {
         int64_t y;
-        starts[0] = PAPER_FIRST_COUNT;
-        for (y = PAPER_FIRST_YEAR; y <= PAPER_LAST_YEAR; y++)
-            starts[y - PAPER_FIRST_YEAR + 1] = starts[y - PAPER_FIRST_YEAR] + (leap(y) ? 366 : 365);
+        of_year[0] = PAPER_YEAR_ZERO_COUNT;
+        for (y = 1; y <= PAPER_LAST_YEAR + 2; y++)
+            of_year[y] = of_year[y - 1] + (leap(y - 1) ? 366 : 365);
+        for (y = -1; y >= PAPER_FIRST_YEAR - 2; y--)
+            of_year[y] = of_year[y + 1] - (leap(y) ? 366 : 365);
     }
-    return starts[year - PAPER_FIRST_YEAR];
+    return of_year[year];
+}
+
+/* Searched for from a year near it: 400 years have some 146097 days. */
+int64_t plain_year_of(int64_t days)
+{
+    int64_t year = PAPER_FIRST_YEAR + (days - PAPER_FIRST_COUNT) * 400 / 146097;
+    while (plain_year_start(year) > days)
+        year--;
+    while (plain_year_start(year + 1) <= days)
+        year++;
+    return year;
 }
 
 /* The first of refusals 1, 2 and 3 that a date has, negated, or 0. */
@@ -48,7 +62,7 @@ int64_t plain_days_from_civil(int64_t year, int64_t month, int64_t day, int64_t 
 {
     int refusal = date_refusal(year, month, day);
     if (refusal == 0)
-        *days = year_start(year) + day_of_year(year, month, day) - 1;
+        *days = plain_year_start(year) + day_of_year(year, month, day) - 1;
     return refusal;
 }
 
@@ -57,10 +71,8 @@ int64_t plain_civil_from_days(int64_t days, int64_t *date)
     int64_t year, month = 1, rest;
     if (outside(PAPER_FIRST_COUNT, PAPER_LAST_COUNT, days))
         return -4;
-    year = PAPER_FIRST_YEAR + (days - PAPER_FIRST_COUNT) / 366; /* not too far, since no year is longer */
-    while (year_start(year + 1) <= days)
-        year++;
-    rest = days - year_start(year);
+    year = plain_year_of(days);
+    rest = days - plain_year_start(year);
     while (rest >= plain_month_length(year, month))
         rest -= plain_month_length(year, month++);
     date[0] = year;

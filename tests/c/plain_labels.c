@@ -1,6 +1,6 @@
 /*
  * Instants, the index and the two labels: document 01, "Instants and the two labels". Reading positions and cue lines: change
- * request One. The order of an index: change request Six.
+ * request One. The order of an index: change request Six. The years of labels: change request Eight.
  */
 #include <stdio.h>
 #include <string.h>
@@ -83,6 +83,8 @@ int64_t plain_write_instant(int64_t instant, uint8_t *out, size_t length)
     char label[80];
     if (plain_split_instant(instant, f) != 0)
         return -4;
+    if (outside(PAPER_FIRST_LABEL_YEAR, PAPER_LAST_LABEL_YEAR, f[0]))
+        return -1;
     snprintf(label, sizeof label, PAPER_INSTANT_LABEL, (int)f[0], (int)f[1], (int)f[2], (int)f[3], (int)f[4], (int)f[5],
              (int)f[6]);
     return put(label, out, length);

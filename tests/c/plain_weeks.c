@@ -1,35 +1,8 @@
-/* Week dates and their labels: change request Seven. A week date is the week year, the week and the weekday. */
+/* Week dates and their labels: change requests Seven and Eight. A week date is the week year, the week and the weekday. */
 #include <stdio.h>
 #include <string.h>
 
 #include "plain.h"
-
-/* The calendar years that are looked at: the first and the last days of a week year may lie in the years beside it. */
-#define FIRST (PAPER_FIRST_WEEK_YEAR - 1)
-#define LAST (PAPER_LAST_WEEK_YEAR + 1)
-
-static int64_t year_length(int64_t year)
-{
-    int64_t month, days = 0;
-    for (month = 1; month <= 12; month++)
-        days += plain_month_length(year, month);
-    return days;
-}
-
-/* The count of the first day of a year, from FIRST to the one after LAST, counted year by year. */
-static int64_t year_start(int64_t year)
-{
-    static int64_t starts[LAST - FIRST + 2];
-    if (starts[0] == 0) {
-        int64_t y;
-        starts[0] = PAPER_FIRST_COUNT;
-        for (y = FIRST; y < PAPER_FIRST_YEAR; y++)
-            starts[0] -= year_length(y);
-        for (y = FIRST; y <= LAST; y++)
-            starts[y - FIRST + 1] = starts[y - FIRST] + year_length(y);
-    }
-    return starts[year - FIRST];
-}
 
 /* The Thursday of a day's week, which begins with a Monday. */
 static int64_t thursday_of(int64_t days)
@@ -41,19 +14,10 @@ static int64_t thursday_of(int64_t days)
     return days;
 }
 
-/* The calendar year of a day. */
-static int64_t year_of(int64_t days)
-{
-    int64_t year = FIRST + (days - year_start(FIRST)) / 366; /* not too far, since no year is longer */
-    while (year_start(year + 1) <= days)
-        year++;
-    return year;
-}
-
 /* How many Thursdays the year of a Thursday has up to it, itself counted. */
 static int64_t thursdays_up_to(int64_t thursday)
 {
-    const int64_t first_day = year_start(year_of(thursday));
+    const int64_t first_day = plain_year_start(plain_year_of(thursday));
     int64_t count = 0;
     for (; thursday >= first_day; thursday -= 7)
         count++;
@@ -66,7 +30,7 @@ int64_t plain_week_from_days(int64_t days, int64_t *week_date)
     if (outside(PAPER_FIRST_COUNT, PAPER_LAST_COUNT, days))
         return -4;
     thursday = thursday_of(days);
-    week_date[0] = year_of(thursday);
+    week_date[0] = plain_year_of(thursday);
     week_date[1] = thursdays_up_to(thursday);
     week_date[2] = plain_any_weekday(days);
     return 0;
@@ -75,7 +39,8 @@ int64_t plain_week_from_days(int64_t days, int64_t *week_date)
 /* Whether a day, in the range or not, has that week date. */
 static int has(int64_t days, int64_t year, int64_t week, int64_t weekday)
 {
-    return plain_any_weekday(days) == weekday && year_of(thursday_of(days)) == year && thursdays_up_to(thursday_of(days)) == week;
+    return plain_any_weekday(days) == weekday && plain_year_of(thursday_of(days)) == year
+           && thursdays_up_to(thursday_of(days)) == week;
 }
 
 /* Tries every day of the calendar year and of the weeks before and after it: no other day has a Thursday of that year. */
@@ -84,7 +49,7 @@ int64_t plain_days_from_week(int64_t year, int64_t week, int64_t weekday, int64_
     int64_t day;
     if (outside(PAPER_FIRST_WEEK_YEAR, PAPER_LAST_WEEK_YEAR, year))
         return -1;
-    for (day = year_start(year) - 7; day < year_start(year + 1) + 7; day++)
+    for (day = plain_year_start(year) - 7; day < plain_year_start(year + 1) + 7; day++)
         if (has(day, year, week, weekday)) {
             if (outside(PAPER_FIRST_COUNT, PAPER_LAST_COUNT, day))
                 return -4;

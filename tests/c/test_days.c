@@ -16,7 +16,7 @@ struct day {
     ovenquill_date date;
 };
 
-/* Document 01: a Saturday. */
+/* A Saturday as 0000-01-01 is, since 80 times 400 years are whole weeks. */
 static const struct day first_day = {OVENQUILL_FIRST_COUNT, 1, 2, {OVENQUILL_FIRST_YEAR, 1, 1}};
 
 /* The day after a day. */
@@ -65,11 +65,24 @@ static void check_date(struct day d)
     same_date("add days to the last", n, date, last);
 }
 
+/* The label of an instant is read as that instant; what is left where its year has none is not read. */
+static void check_label(int64_t instant, int has_label)
+{
+    uint8_t label[OVENQUILL_INSTANT_LABEL_BYTES], right[OVENQUILL_INSTANT_LABEL_BYTES];
+    int64_t read = INT64_MIN;
+    memset(label, '?', sizeof label);
+    memset(right, '?', sizeof right);
+    same("write instant", instant, ovenquill_write_instant(instant, label, sizeof label),
+         plain_write_instant(instant, right, sizeof right));
+    same("label of an instant", instant, memcmp(label, right, sizeof label), 0);
+    same("read instant", instant, ovenquill_read_instant(label, sizeof label, &read), has_label ? 0 : OVENQUILL_MALFORMED_LABEL);
+    same("read instant", instant, read, has_label ? instant : INT64_MIN);
+}
+
 static void check_instant(struct day d, int64_t time)
 {
     const int64_t instant = d.count * OVENQUILL_INSTANTS_PER_DAY + time;
-    uint8_t label[OVENQUILL_INSTANT_LABEL_BYTES], right_label[OVENQUILL_INSTANT_LABEL_BYTES];
-    int64_t fields[7], right[7], days = INT64_MIN, joined = INT64_MIN, read = INT64_MIN;
+    int64_t fields[7], right[7], days = INT64_MIN, joined = INT64_MIN;
     ovenquill_fields f = {-1, -1, -1, -1, -1, -1, -1};
     size_t i;
     same("day of instant", instant, ovenquill_day_of_instant(instant, &days), 0);
@@ -85,11 +98,7 @@ static void check_instant(struct day d, int64_t time)
     same("join instant", instant,
          ovenquill_join_instant(f.year, f.month, f.day, f.hour, f.minute, f.second, f.millisecond, &joined), 0);
     same("join instant", instant, joined, instant);
-    same("write instant", instant, ovenquill_write_instant(instant, label, sizeof label),
-         plain_write_instant(instant, right_label, sizeof right_label));
-    same("write instant", instant, memcmp(label, right_label, sizeof label), 0);
-    same("read instant", instant, ovenquill_read_instant(label, sizeof label, &read), 0);
-    same("read instant", instant, read, instant);
+    check_label(instant, !outside(PAPER_FIRST_LABEL_YEAR, PAPER_LAST_LABEL_YEAR, d.date.year));
 }
 
 /* A time of day that differs from day to day. */
@@ -105,29 +114,27 @@ static void check_instants(struct day d)
     check_instant(d, OVENQUILL_INSTANTS_PER_DAY - 1);
 }
 
-/* One index of an instant from each day. */
-static void check_index(int64_t step)
+/* An index of an instant from each day, beginning with one; answers the day from which the next index goes on. */
+static int64_t check_index(int64_t first, int64_t step)
 {
-    const size_t count = (size_t)((OVENQUILL_LAST_COUNT - OVENQUILL_FIRST_COUNT) / step + 1);
-    int64_t *instants = (int64_t *)malloc(count * sizeof *instants);
-    int32_t *days = (int32_t *)calloc(count, sizeof *days);
-    int64_t place = -1;
-    size_t i;
-    for (i = 0; i < count; i++) {
-        const int64_t day = OVENQUILL_FIRST_COUNT + (int64_t)i * step;
-        instants[i] = day * OVENQUILL_INSTANTS_PER_DAY + time_between(day);
-    }
-    same("index days", step, ovenquill_index_days(instants, count, days, count, &place), (int64_t)count);
-    same("place of an accepted index", step, place, -1);
+    enum { MOST = 1 << 20 };
+    static int64_t instants[MOST];
+    static int32_t days[MOST];
+    int64_t place = -1, day = first;
+    size_t count, i;
+    for (count = 0; count < MOST && day <= OVENQUILL_LAST_COUNT; count++, day += step)
+        instants[count] = day * OVENQUILL_INSTANTS_PER_DAY + time_between(day);
+    same("index days", first, ovenquill_index_days(instants, count, days, count, &place), (int64_t)count);
+    same("place of an accepted index", first, place, -1);
     for (i = 0; i < count; i++)
-        same("day of an index", instants[i], days[i], OVENQUILL_FIRST_COUNT + (int64_t)i * step);
-    free(instants);
-    free(days);
+        same("day of an index", instants[i], days[i], first + (int64_t)i * step);
+    return day;
 }
 
 int main(int argc, char **argv)
 {
     const int64_t step = argc > 1 ? atoi(argv[1]) : 1;
+    int64_t indexed = OVENQUILL_FIRST_COUNT;
     struct day d;
     for (d = first_day; d.count <= OVENQUILL_LAST_COUNT; d = next(d))
         if ((d.count - OVENQUILL_FIRST_COUNT) % step == 0 || d.count == OVENQUILL_LAST_COUNT) {
@@ -135,6 +142,7 @@ int main(int argc, char **argv)
             check_instants(d);
         }
     same("year after the last day", d.count, d.date.year, OVENQUILL_LAST_YEAR + 1);
-    check_index(step);
+    while (indexed <= OVENQUILL_LAST_COUNT)
+        indexed = check_index(indexed, step);
     return finish("days");
 }

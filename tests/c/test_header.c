@@ -1,6 +1,6 @@
 /*
- * The header's macros, structs and words against the numbers of document 01 and of change requests Five and Seven. Compiled as C
- * and as C++, the header needing no other.
+ * The header's macros, structs and words against the numbers of document 01 and of change requests Five, Seven and Eight. Compiled
+ * as C and as C++, the header needing no other.
  */
 #include "ovenquill.h"
 
@@ -10,6 +10,12 @@
 #include "plain.h"
 
 #define SAME(macro, right) same(#macro, 0, macro, right)
+
+/* The ranges are for the preprocessor too, those with an end below zero included. */
+#if OVENQUILL_FIRST_YEAR != PAPER_FIRST_YEAR || OVENQUILL_FIRST_WEEK_YEAR != OVENQUILL_FIRST_YEAR - 1 \
+    || OVENQUILL_FIRST_COUNT != PAPER_FIRST_COUNT || OVENQUILL_FIRST_INSTANT != PAPER_FIRST_INSTANT
+#error "the preprocessor reads the first year, week year, day count or instant otherwise"
+#endif
 
 static void check_ranges(void)
 {
@@ -25,6 +31,7 @@ static void check_ranges(void)
     SAME(OVENQUILL_LAST_MINUTE, 59);
     SAME(OVENQUILL_LAST_SECOND, 59);
     SAME(OVENQUILL_LAST_MILLISECOND, PAPER_SECOND - 1);
+    SAME(sizeof OVENQUILL_FIRST_YEAR, sizeof(int64_t));
     SAME(sizeof OVENQUILL_LAST_YEAR, sizeof(int64_t));
     SAME(sizeof OVENQUILL_FIRST_WEEK_YEAR, sizeof(int64_t));
     SAME(OVENQUILL_FIRST_COUNT, PAPER_FIRST_COUNT);
@@ -87,6 +94,7 @@ static int has_words(int64_t refusal, const char *words)
 /* Each refusal by its number, with words of its own; tests/test_readme.py holds them to README's. */
 static void check_refusals(void)
 {
+    char years[160];
     static const int64_t refusals[] = {
         OVENQUILL_YEAR_OUT_OF_RANGE,      OVENQUILL_MONTH_OUT_OF_RANGE,        OVENQUILL_DAY_OUT_OF_RANGE,
         OVENQUILL_OUT_OF_RANGE,           OVENQUILL_TIME_OUT_OF_RANGE,         OVENQUILL_POSITION_OUT_OF_RANGE,
@@ -103,8 +111,9 @@ static void check_refusals(void)
         same("number of a refusal", (int64_t)i + 1, refusals[i], -(int64_t)i - 1);
         same("words of a refusal", refusals[i], has_words(refusals[i], "unknown") || has_words(refusals[i], "not refused"), 0);
     }
-    SAME(has_words(OVENQUILL_YEAR_OUT_OF_RANGE, "year outside 0..9999"), 1);
-    SAME(has_words(OVENQUILL_YEAR_OUT_OF_RANGE, "week year outside -1..9999"), 1);
+    snprintf(years, sizeof years, "year outside %d..%d, or week year outside %d..%d, in a label %d..%d", PAPER_FIRST_YEAR,
+             PAPER_LAST_YEAR, PAPER_FIRST_WEEK_YEAR, PAPER_LAST_WEEK_YEAR, PAPER_FIRST_LABEL_YEAR, PAPER_LAST_LABEL_YEAR);
+    SAME(strcmp(ovenquill_refusal_text(OVENQUILL_YEAR_OUT_OF_RANGE), years), 0);
     SAME(has_words(OVENQUILL_MALFORMED_LABEL, "10"), 1);
     SAME(has_words(OVENQUILL_WEEK_OUT_OF_RANGE, "weekday outside 1..7"), 1);
     for (i = 0; i < COUNT(unknown); i++)

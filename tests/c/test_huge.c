@@ -44,8 +44,9 @@ static void try_writer(const char *what, writer *call, writer *plain_call, int64
 
 static void check_writers(void)
 {
-    static const int64_t instants[] = {-1, OVENQUILL_FIRST_INSTANT, OVENQUILL_LAST_INSTANT, OVENQUILL_LAST_INSTANT + 1};
-    static const int64_t days[] = {-1, OVENQUILL_FIRST_COUNT, OVENQUILL_LAST_COUNT, OVENQUILL_LAST_COUNT + 1};
+    static const int64_t instants[] = {-1, PAPER_FIRST_LABEL_INSTANT, PAPER_LAST_LABEL_INSTANT, OVENQUILL_LAST_INSTANT,
+                                       OVENQUILL_LAST_INSTANT + 1};
+    static const int64_t days[] = {-1, PAPER_FIRST_LABEL_DAY, PAPER_LAST_LABEL_DAY, OVENQUILL_LAST_COUNT, OVENQUILL_LAST_COUNT + 1};
     static const int64_t positions[] = {-1, 0, 4287767296, OVENQUILL_LAST_POSITION, OVENQUILL_LAST_POSITION + 1};
     size_t i;
     for (i = 0; i < COUNT(instants); i++)

@@ -93,13 +93,20 @@ static int64_t try_index(const int64_t *instants, size_t count, size_t days_leng
 
 /* What is tried */
 
-/* The ends of each range, of the hours' widths and of the signed 64-bit numbers, and what stands around small ranges. */
+/*
+ * The ends of each range, of the years that labels have, of the hours' widths and of the signed 64-bit numbers, years of the leap
+ * rule below zero, and what stands around small ranges.
+ */
 static const int64_t edges[] = {
     INT64_MIN, INT64_MIN + 1, INT64_MAX - 1, INT64_MAX,
     OVENQUILL_FIRST_YEAR - 1, OVENQUILL_FIRST_YEAR, OVENQUILL_LAST_YEAR, OVENQUILL_LAST_YEAR + 1,
+    OVENQUILL_LAST_LABEL_YEAR, OVENQUILL_LAST_LABEL_YEAR + 1, -400, -100, -4,
     OVENQUILL_FIRST_COUNT - 1, OVENQUILL_FIRST_COUNT, OVENQUILL_LAST_COUNT, OVENQUILL_LAST_COUNT + 1,
+    PAPER_FIRST_LABEL_DAY - 1, PAPER_FIRST_LABEL_DAY, PAPER_FIRST_LABEL_DAY + 1, PAPER_FIRST_LABEL_DAY + 2,
+    PAPER_LAST_LABEL_DAY, PAPER_LAST_LABEL_DAY + 1, PAPER_LAST_LABEL_DAY + 2, PAPER_LAST_LABEL_DAY + 3,
     INT64_MIN - OVENQUILL_FIRST_COUNT, INT64_MAX - OVENQUILL_LAST_COUNT,
     OVENQUILL_FIRST_INSTANT - 1, OVENQUILL_FIRST_INSTANT, OVENQUILL_LAST_INSTANT, OVENQUILL_LAST_INSTANT + 1,
+    PAPER_FIRST_LABEL_INSTANT - 1, PAPER_FIRST_LABEL_INSTANT, PAPER_LAST_LABEL_INSTANT, PAPER_LAST_LABEL_INSTANT + 1,
     INT64_MIN - OVENQUILL_FIRST_INSTANT, INT64_MAX - OVENQUILL_LAST_INSTANT,
     -OVENQUILL_INSTANTS_PER_DAY - 1, -OVENQUILL_INSTANTS_PER_DAY, -1, 0, 1, 11, 12, 13, 28, 29, 30, 31, 32,
     OVENQUILL_INSTANTS_PER_DAY - 1, OVENQUILL_INSTANTS_PER_DAY, RIGHT_INSTANT,
@@ -110,6 +117,11 @@ static const int64_t edges[] = {
 static int64_t random_instant(void)
 {
     return random_within(OVENQUILL_FIRST_INSTANT, OVENQUILL_LAST_INSTANT);
+}
+
+static int64_t random_label_instant(void)
+{
+    return random_within(PAPER_FIRST_LABEL_INSTANT, PAPER_LAST_LABEL_INSTANT);
 }
 
 static size_t random_place(size_t n)
@@ -173,7 +185,7 @@ static void check_random(int rounds)
 {
     while (rounds-- > 0) {
         const int64_t year = random_within(OVENQUILL_FIRST_YEAR - 9, OVENQUILL_LAST_YEAR + 9), month = random_within(0, 13);
-        const int64_t width = INT64_C(1) << random_within(0, 44);
+        const int64_t width = INT64_C(1) << random_within(0, 51);
         const int64_t date_time[7] = {year, month, random_within(0, 32), random_within(-1, 24), random_within(-1, 60),
                                       random_within(-1, 60), random_within(-1, PAPER_SECOND)};
         try_date(year, month, random_within(-1, 33), random_within(-width, width));
@@ -184,7 +196,10 @@ static void check_random(int rounds)
         try_instant(random_instant());
         try_instant(random_within(-width, width));
         try_writers(random_instant(), (size_t)random_within(LABEL - 1, LABEL + 1));
+        try_writers(random_label_instant(), (size_t)random_within(LABEL - 1, LABEL + 1));
         try_writers(random_within(OVENQUILL_FIRST_COUNT, OVENQUILL_LAST_COUNT),
+                    (size_t)random_within(WEEK_LABEL - 1, WEEK_LABEL + 1));
+        try_writers(random_within(PAPER_FIRST_LABEL_DAY, PAPER_LAST_LABEL_DAY),
                     (size_t)random_within(WEEK_LABEL - 1, WEEK_LABEL + 1));
         try_writers(random_within(0, width),
                     (size_t)random_within(OVENQUILL_POSITION_LABEL_MIN_BYTES - 1, OVENQUILL_POSITION_LABEL_MAX_BYTES + 1));
@@ -257,7 +272,7 @@ static void check_reader(void)
     for (i = 0; i < COUNT(long_lengths); i++)
         try_reader(labels, long_lengths[i]);
     for (i = 0; i < 1000; i++) {
-        plain_write_instant(random_instant(), label, LABEL);
+        plain_write_instant(random_label_instant(), label, LABEL);
         try_letters(label);
     }
     /* every byte at every place, with each letter as a capital and small */
@@ -278,8 +293,8 @@ static void check_reader(void)
             label[LETTER_Z] = (uint8_t)byte;
             try_reader(label, LABEL);
         }
-    /* every number in every field of two digits, alone and beside wrong ones, in years of all the range */
-    for (year = PAPER_FIRST_YEAR; year <= PAPER_LAST_YEAR; year += 101)
+    /* every number in every field of two digits, alone and beside wrong ones, in years of all that labels have */
+    for (year = PAPER_FIRST_LABEL_YEAR; year <= PAPER_LAST_LABEL_YEAR; year += 101)
         for (k = 0; k < 100; k++) {
             try_reading(year, k, 29, k % 25, 59, 59);
             try_reading(year, 2, k, 23, k % 61, 59);
@@ -724,6 +739,8 @@ static void check_null(void)
 {
     const int64_t none[1] = {0};
     same("null buffer for an instant", 0, ovenquill_write_instant(0, NULL, 0), OVENQUILL_BUFFER_TOO_SHORT);
+    same("null buffer for an instant of no label", 0, ovenquill_write_instant(OVENQUILL_LAST_INSTANT, NULL, 0),
+         OVENQUILL_YEAR_OUT_OF_RANGE);
     same("null buffer for a bad instant", 0, ovenquill_write_instant(INT64_MAX, NULL, 0), OVENQUILL_OUT_OF_RANGE);
     same("null buffer for a position", 0, ovenquill_write_position(0, NULL, 0), OVENQUILL_BUFFER_TOO_SHORT);
     same("null buffer for a bad position", 0, ovenquill_write_position(-1, NULL, 0), OVENQUILL_POSITION_OUT_OF_RANGE);
@@ -803,18 +820,18 @@ static void check_unset_places(void)
 
 static void check_unset_weeks(void)
 {
-    static const uint8_t label[] = "2023-W19-3", damaged[] = "2023-W19-!", no_week[] = "2023-W53-3", late[] = "9999-W52-6";
+    static const uint8_t label[] = "2023-W19-3", damaged[] = "2023-W19-!", no_week[] = "2023-W53-3";
+    const int64_t first = OVENQUILL_FIRST_WEEK_YEAR;
     DONE_WITH_UNSET(ovenquill_week_date, ovenquill_week_from_days(-1, lent), plain_week_from_days(-1, right));
     REFUSED_WITH_UNSET(ovenquill_week_date, ovenquill_week_from_days(INT64_MAX, lent), plain_week_from_days(INT64_MAX, right));
     DONE_WITH_UNSET(int64_t, ovenquill_days_from_week(2023, 19, 3, lent), plain_days_from_week(2023, 19, 3, right));
-    REFUSED_WITH_UNSET(int64_t, ovenquill_days_from_week(-2, 1, 1, lent), plain_days_from_week(-2, 1, 1, right));
+    REFUSED_WITH_UNSET(int64_t, ovenquill_days_from_week(first - 1, 1, 1, lent), plain_days_from_week(first - 1, 1, 1, right));
     REFUSED_WITH_UNSET(int64_t, ovenquill_days_from_week(2023, 53, 1, lent), plain_days_from_week(2023, 53, 1, right));
-    REFUSED_WITH_UNSET(int64_t, ovenquill_days_from_week(-1, 52, 5, lent), plain_days_from_week(-1, 52, 5, right));
+    REFUSED_WITH_UNSET(int64_t, ovenquill_days_from_week(first, 52, 5, lent), plain_days_from_week(first, 52, 5, right));
     DONE_WITH_UNSET(int64_t, ovenquill_read_week(label, WEEK_LABEL, lent), plain_read_week(label, WEEK_LABEL, right));
     REFUSED_WITH_UNSET(int64_t, ovenquill_read_week(label, WEEK_LABEL - 1, lent), plain_read_week(label, WEEK_LABEL - 1, right));
     REFUSED_WITH_UNSET(int64_t, ovenquill_read_week(damaged, WEEK_LABEL, lent), plain_read_week(damaged, WEEK_LABEL, right));
     REFUSED_WITH_UNSET(int64_t, ovenquill_read_week(no_week, WEEK_LABEL, lent), plain_read_week(no_week, WEEK_LABEL, right));
-    REFUSED_WITH_UNSET(int64_t, ovenquill_read_week(late, WEEK_LABEL, lent), plain_read_week(late, WEEK_LABEL, right));
 }
 
 static void check_unset_buffers(void)
@@ -822,6 +839,8 @@ static void check_unset_buffers(void)
     const size_t position_label = OVENQUILL_POSITION_LABEL_MIN_BYTES;
     SAME_WITH_UNSET(uint8_t, uint8_t, 99, LABEL, ovenquill_write_instant(-1, lent, 99), plain_write_instant(-1, right, 99));
     SAME_WITH_UNSET(uint8_t, uint8_t, 9, 0, ovenquill_write_instant(-1, lent, 9), plain_write_instant(-1, right, 9));
+    SAME_WITH_UNSET(uint8_t, uint8_t, 99, 0, ovenquill_write_instant(OVENQUILL_FIRST_INSTANT, lent, 99),
+                    plain_write_instant(OVENQUILL_FIRST_INSTANT, right, 99));
     SAME_WITH_UNSET(uint8_t, uint8_t, 99, 0, ovenquill_write_instant(INT64_MAX, lent, 99),
                     plain_write_instant(INT64_MAX, right, 99));
     SAME_WITH_UNSET(uint8_t, uint8_t, 99, WEEK_LABEL, ovenquill_write_week(-1, lent, 99), plain_write_week(-1, right, 99));

@@ -1,7 +1,7 @@
 /*
  * Document 01's rows, "Numbers to try", and the words of change request One on reading positions, of Three on small letters,
  * of Four on weekdays, with a week of dates by the names and the numbers of their days, of Five on the transport clock, of Six on
- * the order of an index, and of Seven on week dates. Compiled as C and as C++.
+ * the order of an index, of Seven on week dates, and of Eight on the range of years. Compiled as C and as C++.
  */
 #include <string.h>
 
@@ -31,7 +31,6 @@ static void check_weekday(int64_t year, int64_t month, int64_t day, int64_t week
 static void check_calendar(void)
 {
     int64_t days = 0, number;
-    ovenquill_date date = {0, 0, 0};
     check_date(-719528, 0, 1, 1);
     check_date(-719469, 0, 2, 29);
     check_date(-719468, 0, 3, 1);
@@ -58,7 +57,6 @@ static void check_calendar(void)
     for (number = 1; number <= 7; number++)
         check_weekday(2023, 5, 7 + number, number);
     same("year 0 is leap", 0, ovenquill_is_leap(0), 1);
-    same("day after the last", 2932897, ovenquill_civil_from_days(2932897, &date), OVENQUILL_OUT_OF_RANGE);
     same("1900-02-29", 1900, ovenquill_days_from_civil(1900, 2, 29, &days), OVENQUILL_DAY_OUT_OF_RANGE);
     same("month 13 with day 99", 13, ovenquill_days_from_civil(2023, 13, 99, &days), OVENQUILL_MONTH_OUT_OF_RANGE);
 }
@@ -362,7 +360,7 @@ static void check_refused_index(int64_t first, int64_t second, int64_t third, si
  */
 static void check_order_of_index(void)
 {
-    const int64_t first = -62167219200000, last = 253402300799999;
+    const int64_t first = -1071989683200000, last = 947655244799999;
     check_accepted_index(5, 5, 5);
     check_accepted_index(-1, -1, 0);
     check_accepted_index(86399999, 86400000, 86400000);
@@ -402,13 +400,6 @@ static void check_week(int64_t count, int64_t year, int64_t week, int64_t weekda
     same("days of a week date", count, days, count);
 }
 
-static void check_refused_count(int64_t count)
-{
-    ovenquill_week_date date = {7, 7, 7};
-    same("a refused count", count, ovenquill_week_from_days(count, &date), OVENQUILL_OUT_OF_RANGE);
-    same("the week date of a refused count", count, date.year == 7 && date.week == 7 && date.weekday == 7, 1);
-}
-
 static void check_refused_week(int64_t year, int64_t week, int64_t weekday, int64_t refusal)
 {
     int64_t days = 7;
@@ -417,9 +408,8 @@ static void check_refused_week(int64_t year, int64_t week, int64_t weekday, int6
 }
 
 /*
- * "Week 1 holds the year's first Thursday." "Day -719528 lies in week year -1, so that year is given and taken for the days in
- * range only." "Refusal 1 for a week year outside -1..9999; 16 for a week that its year doesn't have or a weekday outside 1..7; 4
- * for a result out of range, as for 9999-W52-6."
+ * "Week 1 holds the year's first Thursday." "16 for a week that its year doesn't have or a weekday outside 1..7; 4 for a result out
+ * of range." By change request Eight "week years run from -32001 to 31999": the first is "given and taken for the days in range only".
  */
 static void check_week_dates(void)
 {
@@ -432,27 +422,36 @@ static void check_week_dates(void)
     check_week(-719527, -1, 52, OVENQUILL_SUNDAY);
     check_week(-719526, 0, 1, OVENQUILL_MONDAY);
     check_week(2932896, 9999, 52, OVENQUILL_FRIDAY);
-    check_refused_count(-719529);
-    check_refused_count(2932897);
-    check_refused_week(-2, 1, 1, OVENQUILL_YEAR_OUT_OF_RANGE);
-    check_refused_week(10000, 1, 1, OVENQUILL_YEAR_OUT_OF_RANGE);
+    /* the first year, year -1 and the last year, on each side of their ends */
+    check_week(-12407288, -32001, 52, OVENQUILL_SATURDAY);
+    check_week(-12407287, -32001, 52, OVENQUILL_SUNDAY);
+    check_week(-12407286, -32000, 1, OVENQUILL_MONDAY);
+    check_week(-719893, -2, 53, OVENQUILL_FRIDAY);
+    check_week(-719890, -1, 1, OVENQUILL_MONDAY);
+    check_week(-719529, -1, 52, OVENQUILL_FRIDAY);
+    check_week(10968227, 31999, 52, OVENQUILL_MONDAY);
+    check_week(10968231, 31999, 52, OVENQUILL_FRIDAY);
+    check_refused_week(-32002, 1, 1, OVENQUILL_YEAR_OUT_OF_RANGE);
+    check_refused_week(32000, 1, 1, OVENQUILL_YEAR_OUT_OF_RANGE);
+    check_refused_week(-32001, 53, 1, OVENQUILL_WEEK_OUT_OF_RANGE);
     check_refused_week(-1, 53, 1, OVENQUILL_WEEK_OUT_OF_RANGE);
     check_refused_week(2021, 53, 1, OVENQUILL_WEEK_OUT_OF_RANGE);
     check_refused_week(2020, 54, 1, OVENQUILL_WEEK_OUT_OF_RANGE);
     check_refused_week(2020, 0, 1, OVENQUILL_WEEK_OUT_OF_RANGE);
     check_refused_week(2020, 1, 0, OVENQUILL_WEEK_OUT_OF_RANGE);
     check_refused_week(2020, 1, 8, OVENQUILL_WEEK_OUT_OF_RANGE);
-    check_refused_week(-1, 52, 5, OVENQUILL_OUT_OF_RANGE);
-    check_refused_week(-1, 1, 1, OVENQUILL_OUT_OF_RANGE);
-    check_refused_week(9999, 52, 6, OVENQUILL_OUT_OF_RANGE);
-    check_refused_week(9999, 52, 7, OVENQUILL_OUT_OF_RANGE);
-    /* 1 before 16, and 16 before 4 */
-    check_refused_week(-2, 54, 8, OVENQUILL_YEAR_OUT_OF_RANGE);
-    check_refused_week(10000, 0, 0, OVENQUILL_YEAR_OUT_OF_RANGE);
-    check_refused_week(-1, 0, 5, OVENQUILL_WEEK_OUT_OF_RANGE);
-    check_refused_week(-1, 52, 0, OVENQUILL_WEEK_OUT_OF_RANGE);
     check_refused_week(9999, 53, 1, OVENQUILL_WEEK_OUT_OF_RANGE);
-    check_refused_week(9999, 52, 8, OVENQUILL_WEEK_OUT_OF_RANGE);
+    check_refused_week(-32001, 52, 5, OVENQUILL_OUT_OF_RANGE);
+    check_refused_week(-32001, 1, 1, OVENQUILL_OUT_OF_RANGE);
+    check_refused_week(31999, 52, 6, OVENQUILL_OUT_OF_RANGE);
+    check_refused_week(31999, 52, 7, OVENQUILL_OUT_OF_RANGE);
+    /* 1 before 16, and 16 before 4 */
+    check_refused_week(-32002, 54, 8, OVENQUILL_YEAR_OUT_OF_RANGE);
+    check_refused_week(32000, 0, 0, OVENQUILL_YEAR_OUT_OF_RANGE);
+    check_refused_week(-32001, 0, 5, OVENQUILL_WEEK_OUT_OF_RANGE);
+    check_refused_week(-32001, 52, 0, OVENQUILL_WEEK_OUT_OF_RANGE);
+    check_refused_week(31999, 53, 1, OVENQUILL_WEEK_OUT_OF_RANGE);
+    check_refused_week(31999, 52, 8, OVENQUILL_WEEK_OUT_OF_RANGE);
 }
 
 /* A day and its label, each led to the other; the two bytes after the label are kept. */
@@ -487,7 +486,8 @@ static void check_unread_week(const char *label, int64_t refusal)
 
 /*
  * "`YYYY-Www-D`, 10 bytes, week years 0 to 9999 only; the writer takes a day count and refuses with 4, then 1 for other week years,
- * then 7. Order of the reader's checks: shape (8, here any length but 10), year (1), week, weekday (16), range (4)."
+ * then 7. Order of the reader's checks: shape (8, here any length but 10), year (1), week, weekday (16), range (4)." Change request
+ * Eight's range has every year and every day that ten bytes can tell.
  */
 static void check_week_labels(void)
 {
@@ -496,11 +496,23 @@ static void check_week_labels(void)
     check_week_label(18628, "2020-W53-5");
     check_week_label(-719526, "0000-W01-1");
     check_week_label(2932896, "9999-W52-5");
-    check_unwritten_week(-719529, 9, OVENQUILL_OUT_OF_RANGE);
-    check_unwritten_week(2932897, 10, OVENQUILL_OUT_OF_RANGE);
+    check_week_label(2932897, "9999-W52-6");
+    check_week_label(2932898, "9999-W52-7");
+    check_unwritten_week(-12407289, 9, OVENQUILL_OUT_OF_RANGE);
+    check_unwritten_week(-12407289, 10, OVENQUILL_OUT_OF_RANGE);
+    check_unwritten_week(10968232, 9, OVENQUILL_OUT_OF_RANGE);
+    check_unwritten_week(10968232, 10, OVENQUILL_OUT_OF_RANGE);
+    check_unwritten_week(-12407288, 9, OVENQUILL_YEAR_OUT_OF_RANGE);
+    check_unwritten_week(-12407288, 10, OVENQUILL_YEAR_OUT_OF_RANGE);
+    check_unwritten_week(-719529, 10, OVENQUILL_YEAR_OUT_OF_RANGE);
     check_unwritten_week(-719528, 9, OVENQUILL_YEAR_OUT_OF_RANGE);
     check_unwritten_week(-719527, 10, OVENQUILL_YEAR_OUT_OF_RANGE);
+    check_unwritten_week(2932899, 9, OVENQUILL_YEAR_OUT_OF_RANGE);
+    check_unwritten_week(2932899, 10, OVENQUILL_YEAR_OUT_OF_RANGE);
+    check_unwritten_week(10968231, 9, OVENQUILL_YEAR_OUT_OF_RANGE);
+    check_unwritten_week(10968231, 10, OVENQUILL_YEAR_OUT_OF_RANGE);
     check_unwritten_week(-719526, 9, OVENQUILL_BUFFER_TOO_SHORT);
+    check_unwritten_week(2932898, 9, OVENQUILL_BUFFER_TOO_SHORT);
     check_unwritten_week(19487, 0, OVENQUILL_BUFFER_TOO_SHORT);
     check_unread_week("-001-W52-6", OVENQUILL_MALFORMED_LABEL);
     check_unread_week("2023-w19-3", OVENQUILL_MALFORMED_LABEL);
@@ -511,12 +523,152 @@ static void check_week_labels(void)
     check_unread_week("2023-W01-0", OVENQUILL_WEEK_OUT_OF_RANGE);
     check_unread_week("2023-W01-8", OVENQUILL_WEEK_OUT_OF_RANGE);
     check_unread_week("2023-W01-9", OVENQUILL_WEEK_OUT_OF_RANGE);
-    check_unread_week("9999-W52-6", OVENQUILL_OUT_OF_RANGE);
-    check_unread_week("9999-W52-7", OVENQUILL_OUT_OF_RANGE);
-    /* 8 before 16, and 16 before 4 */
-    check_unread_week("2023-w00-8", OVENQUILL_MALFORMED_LABEL);
-    check_unread_week("9999-W53-6", OVENQUILL_WEEK_OUT_OF_RANGE);
+    check_unread_week("9999-W53-1", OVENQUILL_WEEK_OUT_OF_RANGE);
     check_unread_week("9999-W52-8", OVENQUILL_WEEK_OUT_OF_RANGE);
+    /* 8 before 16 */
+    check_unread_week("2023-w00-8", OVENQUILL_MALFORMED_LABEL);
+}
+
+/* A day count that is outside the range, in each call that takes one or leads to one. */
+static void check_refused_count(int64_t count)
+{
+    ovenquill_date date = {7, 7, 7};
+    ovenquill_week_date week = {7, 7, 7};
+    same("the date of a refused count", count, ovenquill_civil_from_days(count, &date), OVENQUILL_OUT_OF_RANGE);
+    same("the weekday of a refused count", count, ovenquill_weekday(count), OVENQUILL_OUT_OF_RANGE);
+    same("the week date of a refused count", count, ovenquill_week_from_days(count, &week), OVENQUILL_OUT_OF_RANGE);
+    same("a refused shift from day 0", count, ovenquill_add_days(1970, 1, 1, count, &date), OVENQUILL_OUT_OF_RANGE);
+    same("the date that a refused count leaves", count, date.year == 7 && date.month == 7 && date.day == 7, 1);
+    same("the week date that a refused count leaves", count, week.year == 7 && week.week == 7 && week.weekday == 7, 1);
+}
+
+/* A year that is outside the range comes before whatever else is wrong in a call. */
+static void check_refused_year(int64_t year)
+{
+    ovenquill_date date = {7, 7, 7};
+    int64_t days = 7, instant = 7;
+    same("leap in a refused year", year, ovenquill_is_leap(year), OVENQUILL_YEAR_OUT_OF_RANGE);
+    same("a month of a refused year", year, ovenquill_last_day_of_month(year, 13), OVENQUILL_YEAR_OUT_OF_RANGE);
+    same("a day of a refused year", year, ovenquill_day_of_year(year, 2, 30), OVENQUILL_YEAR_OUT_OF_RANGE);
+    same("the count of a refused year", year, ovenquill_days_from_civil(year, 13, 99, &days), OVENQUILL_YEAR_OUT_OF_RANGE);
+    same("a refused year shifted", year, ovenquill_add_days(year, 1, 1, INT64_MAX, &date), OVENQUILL_YEAR_OUT_OF_RANGE);
+    same("an instant of a refused year", year, ovenquill_join_instant(year, 1, 1, 24, 0, 0, 0, &instant),
+         OVENQUILL_YEAR_OUT_OF_RANGE);
+    same("what a refused year leaves", year, days == 7 && instant == 7, 1);
+    same("the date that a refused year leaves", year, date.year == 7 && date.month == 7 && date.day == 7, 1);
+}
+
+/* 29 February of a year that has none. */
+static void check_no_leap_day(int64_t year)
+{
+    int64_t days = 7;
+    same("a year that is not leap", year, ovenquill_is_leap(year), 0);
+    same("29 February of such a year", year, ovenquill_days_from_civil(year, 2, 29, &days), OVENQUILL_DAY_OUT_OF_RANGE);
+    same("the count of 29 February of such a year", year, days, 7);
+}
+
+static void check_leap_day(int64_t count, int64_t year)
+{
+    same("a leap year", year, ovenquill_is_leap(year), 1);
+    check_date(count, year, 2, 29);
+    check_date(count + 1, year, 3, 1);
+}
+
+/*
+ * "Raise the calendar to years -32000 through 31999, day counts -12407288 to 10968231. Refusals 1 and 4 move with it." "Day 2932897
+ * and 9999-W52-6 are then both 10000-01-01."
+ */
+static void check_museum_years(void)
+{
+    check_date(-12407288, -32000, 1, 1);
+    check_weekday(-32000, 1, 1, OVENQUILL_SATURDAY);
+    check_date(10968231, 31999, 12, 31);
+    check_weekday(31999, 12, 31, OVENQUILL_FRIDAY);
+    check_refused_count(-12407289);
+    check_refused_count(10968232);
+    check_refused_year(-32001);
+    check_refused_year(32000);
+    check_date(-719529, -1, 12, 31);
+    check_weekday(-1, 12, 31, OVENQUILL_FRIDAY);
+    check_date(2932897, 10000, 1, 1);
+    check_weekday(10000, 1, 1, OVENQUILL_SATURDAY);
+    check_week(2932897, 9999, 52, OVENQUILL_SATURDAY);
+    check_week(2932898, 9999, 52, OVENQUILL_SUNDAY);
+    check_week(2932899, 10000, 1, OVENQUILL_MONDAY);
+    check_leap_day(-12407229, -32000);
+    check_leap_day(-865566, -400);
+    check_leap_day(-720930, -4);
+    check_leap_day(2932956, 10000);
+    check_leap_day(10966830, 31996);
+    check_no_leap_day(-100);
+    check_no_leap_day(-1);
+    check_no_leap_day(31999);
+}
+
+/* An instant that is the first or the last of its day: that day, its date and time, and the instant of these. */
+static void check_split(int64_t instant, int64_t count, int64_t year, int64_t month, int64_t day, int is_last)
+{
+    const int64_t hour = is_last ? 23 : 0, minute = is_last ? 59 : 0, millisecond = is_last ? 999 : 0;
+    ovenquill_fields f = {7, 7, 7, 7, 7, 7, 7};
+    int64_t days = 7, joined = 7;
+    same("the day of an instant", instant, ovenquill_day_of_instant(instant, &days), 0);
+    same("the day of an instant", instant, days, count);
+    same("the fields of an instant", instant, ovenquill_split_instant(instant, &f), 0);
+    same("the date of an instant", instant, f.year == year && f.month == month && f.day == day, 1);
+    same("the time of an instant", instant,
+         f.hour == hour && f.minute == minute && f.second == minute && f.millisecond == millisecond, 1);
+    same("the instant of fields", instant, ovenquill_join_instant(year, month, day, hour, minute, minute, millisecond, &joined), 0);
+    same("the instant of fields", instant, joined, instant);
+}
+
+static void check_refused_instant(int64_t instant)
+{
+    ovenquill_fields f = {7, 7, 7, 7, 7, 7, 7};
+    int64_t days = 7;
+    same("the day of a refused instant", instant, ovenquill_day_of_instant(instant, &days), OVENQUILL_OUT_OF_RANGE);
+    same("the fields of a refused instant", instant, ovenquill_split_instant(instant, &f), OVENQUILL_OUT_OF_RANGE);
+    same("what a refused instant leaves", instant, days == 7 && f.year == 7 && f.millisecond == 7, 1);
+}
+
+/* In a buffer of any length up to the longest, which is a byte too few for a label or one more than it needs. */
+static void check_unwritten_instant(int64_t instant, size_t longest, int64_t refusal)
+{
+    uint8_t out[25], kept[sizeof out];
+    size_t length;
+    memset(out, '?', sizeof out);
+    memset(kept, '?', sizeof kept);
+    for (length = 0; length <= longest; length++) {
+        same("a refused instant label", instant, ovenquill_write_instant(instant, out, length), refusal);
+        same("the buffer of a refused instant label", instant, memcmp(out, kept, sizeof out), 0);
+    }
+}
+
+/*
+ * "Instants too." "Instant labels stay with years 0 to 9999: the writer refuses other years with 1, after 4 and before 7." Instants
+ * at the ends of the range and of the labels' years, and those beside them.
+ */
+static void check_museum_instants(void)
+{
+    check_split(-1071989683200000, -12407288, -32000, 1, 1, 0);
+    check_split(947655244799999, 10968231, 31999, 12, 31, 1);
+    check_refused_instant(-1071989683200001);
+    check_refused_instant(947655244800000);
+    check_split(-62167219200001, -719529, -1, 12, 31, 1);
+    check_split(-62167219200000, -719528, 0, 1, 1, 0);
+    check_split(253402300799999, 2932896, 9999, 12, 31, 1);
+    check_split(253402300800000, 2932897, 10000, 1, 1, 0);
+    check_instant(-62167219200000, -719528, "0000-01-01T00:00:00.000Z");
+    check_instant(253402300799999, 2932896, "9999-12-31T23:59:59.999Z");
+    check_unwritten_instant(-62167219200000, 23, OVENQUILL_BUFFER_TOO_SHORT);
+    check_unwritten_instant(253402300799999, 23, OVENQUILL_BUFFER_TOO_SHORT);
+    check_unwritten_instant(-62167219200001, 25, OVENQUILL_YEAR_OUT_OF_RANGE);
+    check_unwritten_instant(253402300800000, 25, OVENQUILL_YEAR_OUT_OF_RANGE);
+    check_unwritten_instant(-1071989683200000, 25, OVENQUILL_YEAR_OUT_OF_RANGE);
+    check_unwritten_instant(947655244799999, 25, OVENQUILL_YEAR_OUT_OF_RANGE);
+    check_unwritten_instant(-1071989683200001, 25, OVENQUILL_OUT_OF_RANGE);
+    check_unwritten_instant(947655244800000, 25, OVENQUILL_OUT_OF_RANGE);
+    check_unwritten_instant(INT64_MIN, 25, OVENQUILL_OUT_OF_RANGE);
+    check_unwritten_instant(INT64_MAX, 25, OVENQUILL_OUT_OF_RANGE);
 }
 
 int main(void)
@@ -534,5 +686,7 @@ int main(void)
     check_order_of_index();
     check_week_dates();
     check_week_labels();
-    return finish("the numbers of document 01 and of change requests One, Three, Four, Five, Six and Seven");
+    check_museum_years();
+    check_museum_instants();
+    return finish("the numbers of document 01 and of change requests One and Three to Eight");
 }

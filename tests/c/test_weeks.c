@@ -46,7 +46,7 @@ static void check_day(int64_t days)
     int64_t right[3] = {0, 0, 0};
     same("plain week from days", days, plain_week_from_days(days, right), 0);
     check_week_date(days, right);
-    check_label(days, right[0] >= PAPER_FIRST_LABEL_YEAR);
+    check_label(days, !outside(PAPER_FIRST_LABEL_YEAR, PAPER_LAST_LABEL_YEAR, right[0]));
 }
 
 /* Every day by the step, and the last one in any case. */
@@ -110,10 +110,11 @@ static void check_new_years(int64_t step)
 
 /* Counts and numbers, in the range and not */
 
-/* Ends of ranges and of types, numbers that are right modulo 2^8 or 2^32, and one whose 7-fold is 5 modulo 2^64. */
+/* Ends of ranges and of types, numbers that are right modulo 2^8, 2^16 or 2^32, and one whose 7-fold is 5 modulo 2^64. */
 static const int64_t edges[] = {
-    INT64_MIN, INT64_MIN + 1, INT32_MIN, OVENQUILL_FIRST_COUNT - 1, OVENQUILL_FIRST_COUNT, -401, -256, -2, -1, 0, 1, 4, 7, 8,
-    52, 53, 54, 256 + 1, 400, 2020, 2021, OVENQUILL_LAST_WEEK_YEAR, OVENQUILL_LAST_WEEK_YEAR + 1, 65536 + 1,
+    INT64_MIN, INT64_MIN + 1, INT32_MIN, OVENQUILL_FIRST_COUNT - 1, OVENQUILL_FIRST_COUNT, OVENQUILL_FIRST_WEEK_YEAR - 1,
+    OVENQUILL_FIRST_WEEK_YEAR, -401, -256, -2, -1, 0, 1, 4, 7, 8, 52, 53, 54, 256 + 1, 400, 2020, 2021,
+    OVENQUILL_LAST_LABEL_YEAR, OVENQUILL_LAST_LABEL_YEAR + 1, OVENQUILL_LAST_WEEK_YEAR, OVENQUILL_LAST_WEEK_YEAR + 1, 65536 + 1,
     OVENQUILL_LAST_COUNT, OVENQUILL_LAST_COUNT + 1, INT32_MAX, (INT64_C(1) << 32) + 1, (INT64_C(1) << 32) + 2020,
     INT64_C(2635249153387078803), INT64_MAX - 1, INT64_MAX,
 };
@@ -136,6 +137,7 @@ static void try_count(int64_t days)
     try_write(days, 256 + LABEL);
 }
 
+/* The edges, and the days around the ends of the range and of the years that labels have. */
 static void check_counts(void)
 {
     int64_t away;
@@ -144,6 +146,8 @@ static void check_counts(void)
         try_count(edges[i]);
     for (away = -40; away <= 40; away++) {
         try_count(OVENQUILL_FIRST_COUNT + away);
+        try_count(PAPER_FIRST_LABEL_DAY + away);
+        try_count(PAPER_LAST_LABEL_DAY + away);
         try_count(OVENQUILL_LAST_COUNT + away);
     }
 }
@@ -160,9 +164,10 @@ static void try_numbers(int64_t year, int64_t week, int64_t weekday)
 /* Every week and weekday, and those beside them, of years with 52 and 53 weeks, of the limits, and beside them. */
 static void check_grids(void)
 {
-    static const int64_t years[] = {-3,   -2,   -1,   0,    1,    2,    3,    4,    5,    1899, 1900, 1902,
-                                    1903, 1904, 2000, 2003, 2004, 2005, 2014, 2015, 2016, 2019, 2020, 2021,
-                                    2025, 2026, 2027, 9996, 9997, 9998, 9999, 10000, 10001};
+    static const int64_t years[] = {-32003, -32002, -32001, -32000, -31999, -401, -400, -101, -100, -5,   -4,   -3,    -2,    -1,
+                                    0,      1,      2,      3,      4,      5,    1899, 1900, 1902, 1903, 1904, 2000,  2003,  2004,
+                                    2005,   2014,   2015,   2016,   2019,   2020, 2021, 2025, 2026, 2027, 9996, 9997,  9998,  9999,
+                                    10000,  10001,  31998,  31999,  32000,  32001};
     size_t i;
     for (i = 0; i < COUNT(years); i++) {
         int64_t week, weekday;
@@ -207,14 +212,14 @@ static void try_read(const void *label, size_t length)
     show_failed_text(before, label, length);
 }
 
-/* Labels that are right, of days in the range and after it. */
-static const char *const right_labels[] = {"2023-W19-3", "2020-W53-4", "0000-W01-1", "1999-W52-7", "9999-W52-5", "9999-W52-6"};
+/* Labels that are right, the last of 10000-01-02. */
+static const char *const right_labels[] = {"2023-W19-3", "2020-W53-4", "0000-W01-1", "1999-W52-7", "9999-W52-5", "9999-W52-7"};
 
 static const char *const wrong_labels[] = {
     "-001-W52-6", "+023-W19-3", " 023-W19-3", "2023-w19-3", "2023-W 1-3", "2023-W+1-3", "2023-W1-03", "2023W19-03",
     "2023-W193-", "2023-05-10", "2023/W19/3", "2023-W19-:", "2023-W19-A", "2023-W00-1", "2023-W53-1", "2023-W01-0",
     "2023-W01-8", "9999-W53-1", "2023-W19", "2023W193", "2023-W1-3", "10000-W01-1", "2023-W019-3", "2023-W19-03",
-    "-0001-W52-6", "2023-W19-3Z", "2023-W19-3\n",
+    "-0001-W52-6", "2023-W19-3Z", "2023-W19-3\n", "31999-W52-5", "-2000-W01-1", "-32001-W52-6",
 };
 
 /* A label cut off and followed by another, and the end of one. */
