@@ -3,10 +3,9 @@
 
     dates.py [STEP]      those of every STEP-th year, from the first year on; of every year without it
 
-A line for each month; for each of the two days: year, month, day, the days from the first day of the first year, and the
-weekday as ISO 8601 numbers it. Shares nothing with the library: it is what the program `dates` and tests/c/all_dates.c are
-held to. A year that datetime does not have is moved by cycles of 400 years into those that it has; a cycle is 146097 days,
-which are whole weeks.
+A line for each month; for each of the two days: year, month, day, the days from 1970-01-01, and the weekday as ISO 8601
+numbers it. Shares nothing with the library: it is what the program `dates` and tests/c/all_dates.c are held to. A year that
+datetime does not have is moved by cycles of 400 years into those that it has; a cycle is 146097 days, which are whole weeks.
 """
 import sys
 from datetime import MAXYEAR, MINYEAR, date, timedelta
@@ -15,6 +14,7 @@ from datetime import MAXYEAR, MINYEAR, date, timedelta
 FIRST_YEAR, LAST_YEAR = -32000, 31999
 
 CYCLE_YEARS, CYCLE_DAYS = 400, 146097
+EPOCH = date(1970, 1, 1).toordinal()
 
 
 def cycles_into_datetime(year):
@@ -27,18 +27,11 @@ def cycles_into_datetime(year):
     return cycles
 
 
-def ordinal(day, cycles):
-    """datetime's number of a day, moved back."""
-    return day.toordinal() - CYCLE_DAYS * cycles
-
-
 def shown(day, cycles):
+    """A day, moved back."""
     year = day.year - CYCLE_YEARS * cycles
-    return f"{year} {day.month} {day.day} {ordinal(day, cycles) - FIRST} {day.isoweekday()}"
-
-
-FIRST_CYCLES = cycles_into_datetime(FIRST_YEAR)
-FIRST = ordinal(date(FIRST_YEAR + CYCLE_YEARS * FIRST_CYCLES, 1, 1), FIRST_CYCLES)
+    count = day.toordinal() - EPOCH - CYCLE_DAYS * cycles
+    return f"{year} {day.month} {day.day} {count} {day.isoweekday()}"
 
 
 def lines(step):

@@ -1,7 +1,6 @@
 /*
  * Prints the first and the last day of every month of the calendar from the library's calls, a line for each month as tools/dates.py
- * prints it: of each day the year, month and day of its count, the days from the range's first, and the weekday. Compiled as C and as
- * C++.
+ * prints it: of each day the year, month and day of its count, the count, and the weekday. Compiled as C and as C++.
  */
 #include <inttypes.h>
 #include <stdio.h>
@@ -17,8 +16,7 @@ static void print_day(int64_t year, int64_t month, int64_t day)
     ovenquill_date date = {UNCHANGED, UNCHANGED, UNCHANGED};
     ovenquill_days_from_civil(year, month, day, &days);
     ovenquill_civil_from_days(days, &date);
-    printf("%" PRId64 " %" PRId64 " %" PRId64 " %" PRId64 " %" PRId64, date.year, date.month, date.day,
-           days - OVENQUILL_FIRST_COUNT, ovenquill_weekday(days));
+    printf("%" PRId64 " %" PRId64 " %" PRId64 " %" PRId64 " %" PRId64, date.year, date.month, date.day, days, ovenquill_weekday(days));
 }
 
 int main(void)
