@@ -366,6 +366,15 @@ fn indexes_with_a_new_day_at_every_place() {
 }
 
 #[test]
+fn indexes_around_every_day_boundary() {
+    for first in (FIRST_DAY..=LAST_DAY).step_by(1000) {
+        let days = first..=LAST_DAY.min(first + 999);
+        let instants: Vec<i64> = days.flat_map(|day| [day * DAY, day * DAY + DAY - 1]).collect();
+        assert_eq!(try_index(&instants, instants.len()), Value(instants.len()));
+    }
+}
+
+#[test]
 fn indexes_with_equal_neighbours_at_every_place() {
     at_every_place(61, 1, |instants, place| {
         let equal = with(instants, place, instants[place - 1]);

@@ -447,8 +447,12 @@ fn writers() {
 #[test]
 fn no_slice_at_all() {
     // As C may lend it: null, with the length 0.
-    assert_eq!(unsafe { raw::ovenquill_write_instant(0, ptr::null_mut(), 0) }, -7);
-    assert_eq!(unsafe { raw::ovenquill_write_week(0, ptr::null_mut(), 0) }, -7);
+    for (instant, returns) in [(0, -7), (FIRST_INSTANT, -1), (LAST_INSTANT, -1), (LAST_INSTANT + 1, -4)] {
+        assert_eq!(unsafe { raw::ovenquill_write_instant(instant, ptr::null_mut(), 0) }, returns);
+    }
+    for (days, returns) in [(0, -7), (FIRST_DAY, -1), (LAST_DAY, -1), (LAST_DAY + 1, -4)] {
+        assert_eq!(unsafe { raw::ovenquill_write_week(days, ptr::null_mut(), 0) }, returns);
+    }
     assert_eq!(unsafe { raw::ovenquill_write_position(0, ptr::null_mut(), 0) }, -7);
     let read = lend(BEFORE, |instant| unsafe { raw::ovenquill_read_instant(ptr::null(), 0, instant) });
     assert_eq!(read, (-8, BEFORE));
