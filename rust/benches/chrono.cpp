@@ -12,7 +12,7 @@
 
 using namespace std::chrono;
 
-static constexpr int64_t first_year = 0, last_year = 9999;
+static constexpr int64_t first_year = -32000, last_year = 31999;
 static constexpr int64_t first_week_year = first_year - 1, last_week_year = last_year;
 static constexpr sys_days first_day{year{first_year} / January / 1}, last_day{year{last_year} / December / 31};
 static constexpr int64_t first_count = first_day.time_since_epoch().count();

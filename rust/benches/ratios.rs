@@ -265,7 +265,7 @@ fn week_lines() {
             (CHRONO, chrono::chrono_days_from_week),
         ],
     );
-    let list = numbers(&mut random, weeks::FIRST_LABEL_DAY..=*DAYS.end());
+    let list = numbers(&mut random, weeks::LABEL_DAYS);
     line::<Writer>(
         "write a week label",
         &Inputs::of(&list),
@@ -344,7 +344,7 @@ fn damaged<T: Clone + AsMut<[u8]>>(random: &mut Random, texts: &[T]) -> Vec<T> {
 fn labels_of(instants: &[i64]) -> Vec<[u8; INSTANT_LABEL_BYTES]> {
     let label_of = |&instant: &i64| {
         let mut label = [0; INSTANT_LABEL_BYTES];
-        ovenquill::write_instant(instant, &mut label).expect("an instant in the range");
+        ovenquill::write_instant(instant, &mut label).expect("an instant that has a label");
         label
     };
     instants.iter().map(label_of).collect()
@@ -358,7 +358,7 @@ fn in_either_case(random: &mut Random, labels: Vec<[u8; INSTANT_LABEL_BYTES]>) -
 
 fn label_lines() {
     let mut random = Random::new(102);
-    let list = numbers(&mut random, INSTANTS);
+    let list = numbers(&mut random, labels::LABEL_INSTANTS);
     let right = in_either_case(&mut random, labels_of(&list));
     let damaged = damaged(&mut random, &right);
     let short = numbers(&mut random, *POSITIONS.start()..=100 * labels::POSITION_HOUR - 1);

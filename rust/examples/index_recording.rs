@@ -1,4 +1,5 @@
-//! Indexes a recording: the label, the day, the date and the weekday of the instant that each of its parts starts at.
+//! Indexes a recording: the label, the day, the date and the weekday of the instant that each of its parts starts at. Instants of
+//! years that four digits do not tell have a day, a date and a weekday, but no label.
 //!
 //!     index_recording              a recording that is built in, the same with a bad instant in it, and with two swapped
 //!     index_recording - < FILE     instants in milliseconds from 1970-01-01 00:00, one to a line; empty lines are passed over
@@ -6,25 +7,36 @@
 //! The exit status is 1, with a message on standard error, where a line is no instant, where the index is refused and where
 //! not everything could be read or written; it is 2 with any other arguments.
 
-use ovenquill::{civil_from_days, index_days, instant_label, weekday, Refusal, INSTANTS};
+use ovenquill::{civil_from_days, index_days, instant_label, weekday, Refusal, INSTANTS, INSTANT_LABEL_BYTES};
 use std::error::Error;
 use std::ffi::OsString;
 use std::io::{self, BufRead, Write};
 use std::process::ExitCode;
 
-/// A camera that was first switched on in 1969, and then ran over a new year and a leap day.
-const RECORDING: [i64; 6] = [-1, 1683729000000, 1704067199999, 1704067200000, 1704153599999, 1709208000000];
+/// A scene that is set in the year -8000, and a camera that was first switched on in 1969, and then ran over a new year and a leap
+/// day.
+const RECORDING: [i64; 7] =
+    [-314622835200000, -1, 1683729000000, 1704067199999, 1704067200000, 1704153599999, 1709208000000];
 
 /// What a day is before the index writes it.
 const NO_DAY: i32 = i32::MIN;
+
+/// The label of an instant in the range, or that its year has none.
+fn label_or_none(instant: i64) -> Result<String, Refusal> {
+    match instant_label(instant) {
+        Ok(label) => Ok(label.to_string()),
+        Err(Refusal::YearOutOfRange) => Ok("no label for this year".into()),
+        Err(refusal) => Err(refusal),
+    }
+}
 
 /// Writes a line for each part.
 fn show(instants: &[i64], days: &[i32], out: &mut impl Write) -> Result<(), Box<dyn Error>> {
     writeln!(out, "{} parts", days.len())?;
     for (&instant, &day) in instants.iter().zip(days) {
         let day = i64::from(day);
-        let (label, date, weekday) = (instant_label(instant)?, civil_from_days(day)?, weekday(day)?);
-        writeln!(out, "{label}  day {day:>5}  {date}  {weekday}")?;
+        let (label, date, weekday) = (label_or_none(instant)?, civil_from_days(day)?, weekday(day)?);
+        writeln!(out, "{label:INSTANT_LABEL_BYTES$}  day {day:>9}  {date:>12}  {weekday}")?;
     }
     Ok(())
 }
@@ -58,11 +70,11 @@ fn show_built_in(out: &mut impl Write) -> Result<(), Box<dyn Error>> {
     show(&RECORDING, &days, out)?;
 
     let mut with_a_bad_one = RECORDING;
-    with_a_bad_one[3] = INSTANTS.end() + 1;
+    with_a_bad_one[4] = INSTANTS.end() + 1;
     show_refused(&with_a_bad_one, out)?;
 
     let mut with_two_swapped = RECORDING;
-    with_two_swapped.swap(3, 4);
+    with_two_swapped.swap(4, 5);
     show_refused(&with_two_swapped, out)
 }
 

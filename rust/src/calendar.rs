@@ -6,8 +6,8 @@ use crate::text::pad_date;
 use core::fmt;
 use core::ops::RangeInclusive;
 
-/// The first and the last year.
-pub const YEARS: RangeInclusive<i64> = 0..=9999;
+/// The first and the last year. Years are astronomical: year 0 is the one before year 1, and -1 the one before year 0.
+pub const YEARS: RangeInclusive<i64> = -32000..=31999;
 
 /// The first and the last month of a year.
 pub const MONTHS: RangeInclusive<i64> = 1..=12;
@@ -20,7 +20,7 @@ pub const MONTHS: RangeInclusive<i64> = 1..=12;
 /// assert_eq!(civil_from_days(*DAYS.start()), Ok(Date::new(*YEARS.start(), 1, 1)));
 /// assert_eq!(civil_from_days(*DAYS.end()), Ok(Date::new(*YEARS.end(), 12, 31)));
 /// ```
-pub const DAYS: RangeInclusive<i64> = -719528..=2932896;
+pub const DAYS: RangeInclusive<i64> = -12407288..=10968231;
 
 /// A date: any three numbers, which the calls accept or refuse.
 ///
@@ -34,11 +34,12 @@ pub const DAYS: RangeInclusive<i64> = -719528..=2932896;
 /// assert_eq!(date.to_string(), "2023-05-10");
 /// assert_eq!(format!("{date:>12}"), "  2023-05-10");
 /// assert!(date < Date::new(2023, 12, 1));
+/// assert_eq!(Date::new(-1, 12, 31).to_string(), "-0001-12-31");
 /// ```
 #[derive(Clone, Copy, Debug, PartialEq, Eq, PartialOrd, Ord, Hash)]
 #[repr(C)]
 pub struct Date {
-    /// The year; year 0 is the one before year 1.
+    /// The year, counted as in [`YEARS`].
     pub year: i64,
     /// The month, from 1.
     pub month: i64,
@@ -79,6 +80,7 @@ const NO_DATE: Date = Date::new(0, 0, 0);
 ///
 /// assert_eq!(days_from_civil(Date::new(2023, 5, 10)), Ok(19487));
 /// assert_eq!(days_from_civil(Date::new(1969, 12, 31)), Ok(-1));
+/// assert_eq!(days_from_civil(Date::new(-4, 2, 29)), Ok(-720930));
 /// assert_eq!(days_from_civil(Date::new(1900, 2, 29)), Err(Refusal::DayOutOfRange));
 /// ```
 #[inline]
@@ -97,6 +99,7 @@ pub fn days_from_civil(date: Date) -> Result<i64, Refusal> {
 ///
 /// assert_eq!(civil_from_days(0), Ok(Date::new(1970, 1, 1)));
 /// assert_eq!(civil_from_days(11016), Ok(Date::new(2000, 2, 29)));
+/// assert_eq!(civil_from_days(-719529), Ok(Date::new(-1, 12, 31)));
 /// assert_eq!(civil_from_days(i64::MAX), Err(Refusal::OutOfRange));
 /// ```
 #[inline]
@@ -134,6 +137,7 @@ pub fn add_days(date: Date, days: i64) -> Result<Date, Refusal> {
 ///
 /// assert_eq!(is_leap(2000), Ok(true));
 /// assert_eq!(is_leap(2100), Ok(false));
+/// assert_eq!(is_leap(-4), Ok(true));
 /// assert_eq!(is_leap(YEARS.end() + 1), Err(Refusal::YearOutOfRange));
 /// ```
 #[inline]

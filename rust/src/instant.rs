@@ -39,7 +39,7 @@ pub const INSTANTS: RangeInclusive<i64> = *DAYS.start() * DAY..=*DAYS.end() * DA
 #[derive(Clone, Copy, Debug, PartialEq, Eq, PartialOrd, Ord, Hash)]
 #[repr(C)]
 pub struct Fields {
-    /// The year; year 0 is the one before year 1.
+    /// The year, counted as in [`YEARS`](crate::YEARS).
     pub year: i64,
     /// The month, from 1.
     pub month: i64,
@@ -75,7 +75,7 @@ pub fn day_of_instant(instant: i64) -> Result<i64, Refusal> {
     placed(0, |days| unsafe { raw::ovenquill_day_of_instant(instant, days) })
 }
 
-/// The date and the time of day of an instant.
+/// The date and the time of day of an instant, also of one whose year has no label.
 ///
 /// Refused is an instant outside [`INSTANTS`] ([`Refusal::OutOfRange`]).
 ///
@@ -84,6 +84,7 @@ pub fn day_of_instant(instant: i64) -> Result<i64, Refusal> {
 ///
 /// let last = Fields { year: 1969, month: 12, day: 31, hour: 23, minute: 59, second: 59, millisecond: 999 };
 /// assert_eq!(split_instant(-1), Ok(last));
+/// assert_eq!(split_instant(-62167219200001), Ok(Fields { year: -1, ..last }));
 /// assert_eq!(split_instant(i64::MAX), Err(Refusal::OutOfRange));
 /// ```
 #[inline]

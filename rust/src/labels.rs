@@ -27,7 +27,8 @@ macro_rules! week_label_form {
 #[doc = concat!("The bytes of a week label, `", week_label_form!(), "`.")]
 pub const WEEK_LABEL_BYTES: usize = week_label_form!().len();
 
-/// The first and the last week year that a week label can have: those that four digits can tell.
+/// The first and the last year of instant labels, and week year of week labels: those that four digits can tell. A day of another
+/// year has no label; [`split_instant`](crate::split_instant) and [`week_from_days`](crate::week_from_days) give its numbers.
 pub const LABEL_YEARS: RangeInclusive<i64> = 0..=9999;
 
 /// The first and the last position, in milliseconds.
@@ -46,15 +47,17 @@ pub const POSITION_LABEL_BYTES: usize = 15;
 #[doc = concat!("Writes the label of an instant, `", instant_label_form!(), "`, to the front of a buffer and answers its")]
 /// length. The bytes behind it are unchanged.
 ///
-/// Refused are an instant outside [`INSTANTS`](crate::INSTANTS) ([`Refusal::OutOfRange`]) and then a buffer of fewer than
-/// [`INSTANT_LABEL_BYTES`] ([`Refusal::BufferTooShort`]).
+/// Refused are, in this order, an instant outside [`INSTANTS`](crate::INSTANTS) ([`Refusal::OutOfRange`]), one whose year is
+/// outside [`LABEL_YEARS`] ([`Refusal::YearOutOfRange`]), and a buffer of fewer than [`INSTANT_LABEL_BYTES`]
+/// ([`Refusal::BufferTooShort`]).
 ///
 /// ```
-/// use ovenquill::{write_instant, Refusal, INSTANT_LABEL_BYTES};
+/// use ovenquill::{write_instant, Refusal, INSTANTS, INSTANT_LABEL_BYTES};
 ///
 /// let mut buffer = [b'.'; INSTANT_LABEL_BYTES + 2];
 /// assert_eq!(write_instant(-1, &mut buffer), Ok(INSTANT_LABEL_BYTES));
 /// assert_eq!(&buffer, b"1969-12-31T23:59:59.999Z..");
+/// assert_eq!(write_instant(*INSTANTS.end(), &mut buffer), Err(Refusal::YearOutOfRange));
 /// assert_eq!(write_instant(0, &mut buffer[..INSTANT_LABEL_BYTES - 1]), Err(Refusal::BufferTooShort));
 /// assert_eq!(&buffer, b"1969-12-31T23:59:59.999Z..");
 /// ```
@@ -88,8 +91,8 @@ pub fn read_instant(label: &[u8]) -> Result<i64, Refusal> {
 #[doc = concat!("Writes the week label of a count of days from 1970-01-01, `", week_label_form!(), "`, to the front of a")]
 /// buffer and answers its length. The bytes behind it are unchanged.
 ///
-/// Refused are, in this order, a count outside [`DAYS`](crate::DAYS) ([`Refusal::OutOfRange`]), the first two of these, whose
-/// week year is outside [`LABEL_YEARS`] ([`Refusal::YearOutOfRange`]), and a buffer of fewer than [`WEEK_LABEL_BYTES`]
+/// Refused are, in this order, a count outside [`DAYS`](crate::DAYS) ([`Refusal::OutOfRange`]), one whose week year is outside
+/// [`LABEL_YEARS`] ([`Refusal::YearOutOfRange`]), and a buffer of fewer than [`WEEK_LABEL_BYTES`]
 /// ([`Refusal::BufferTooShort`]).
 ///
 /// ```
@@ -112,17 +115,17 @@ pub fn write_week(days: i64, out: &mut [u8]) -> Result<usize, Refusal> {
 ///
 /// What is read is what [`write_week`] writes for that count.
 ///
-/// Refused are, in this order, bytes that are no label ([`Refusal::MalformedLabel`]), a week that the year does not have or a
-/// weekday outside 1 to 7 ([`Refusal::WeekOutOfRange`]) and a day after the last of [`DAYS`](crate::DAYS)
-/// ([`Refusal::OutOfRange`]).
+/// Refused are bytes that are no label ([`Refusal::MalformedLabel`]) and then a week that the year does not have or a weekday
+/// outside 1 to 7 ([`Refusal::WeekOutOfRange`]). Every week date of a label lies in [`DAYS`](crate::DAYS); the last two are days of
+/// the year after [`LABEL_YEARS`].
 ///
 /// ```
-/// use ovenquill::{read_week, Refusal};
+/// use ovenquill::{days_from_civil, read_week, Date, Refusal};
 ///
 /// assert_eq!(read_week(b"2023-W19-3"), Ok(19487));
+/// assert_eq!(read_week(b"9999-W52-6"), days_from_civil(Date::new(10000, 1, 1)));
 /// assert_eq!(read_week(b"2023-w19-3"), Err(Refusal::MalformedLabel));
 /// assert_eq!(read_week(b"2021-W53-1"), Err(Refusal::WeekOutOfRange));
-/// assert_eq!(read_week(b"9999-W52-6"), Err(Refusal::OutOfRange));
 /// ```
 #[inline]
 pub fn read_week(label: &[u8]) -> Result<i64, Refusal> {
@@ -395,12 +398,15 @@ read_label_type!(PositionLabel, read_position, position_label);
 
 /// The label of an instant, by value.
 ///
-/// Refused is an instant outside [`INSTANTS`](crate::INSTANTS) ([`Refusal::OutOfRange`]).
+/// Refused are an instant outside [`INSTANTS`](crate::INSTANTS) ([`Refusal::OutOfRange`]) and then one whose year is outside
+/// [`LABEL_YEARS`] ([`Refusal::YearOutOfRange`]).
 ///
 /// ```
-/// use ovenquill::{instant_label, Refusal};
+/// use ovenquill::{instant_label, read_instant, Refusal};
 ///
 /// assert_eq!(instant_label(-1)?, "1969-12-31T23:59:59.999Z");
+/// let last = read_instant(b"9999-12-31T23:59:59.999Z")?;
+/// assert_eq!(instant_label(last + 1), Err(Refusal::YearOutOfRange));
 /// assert_eq!(instant_label(i64::MAX), Err(Refusal::OutOfRange));
 /// # Ok::<(), Refusal>(())
 /// ```
@@ -411,15 +417,16 @@ pub fn instant_label(instant: i64) -> Result<InstantLabel, Refusal> {
 
 /// The week label of a count of days from 1970-01-01, by value.
 ///
-/// Refused are a count outside [`DAYS`](crate::DAYS) ([`Refusal::OutOfRange`]) and then the first two of these, whose week year
-/// is outside [`LABEL_YEARS`] ([`Refusal::YearOutOfRange`]).
+/// Refused are a count outside [`DAYS`](crate::DAYS) ([`Refusal::OutOfRange`]) and then one whose week year is outside
+/// [`LABEL_YEARS`] ([`Refusal::YearOutOfRange`]).
 ///
 /// ```
-/// use ovenquill::{week_label, Refusal, DAYS};
+/// use ovenquill::{read_week, week_label, Refusal};
 ///
 /// assert_eq!(week_label(0)?, "1970-W01-4");
-/// assert_eq!(week_label(DAYS.start() + 1), Err(Refusal::YearOutOfRange));
-/// assert_eq!(week_label(DAYS.start() + 2)?, "0000-W01-1");
+/// let first = read_week(b"0000-W01-1")?;
+/// assert_eq!(week_label(first - 1), Err(Refusal::YearOutOfRange));
+/// assert_eq!(week_label(i64::MIN), Err(Refusal::OutOfRange));
 /// # Ok::<(), Refusal>(())
 /// ```
 #[inline]

@@ -21,6 +21,10 @@
 //! values that [`Clock::follow`] refuses, and counts them. A count of days is counted from 1970-01-01, an instant in
 //! milliseconds from 1970-01-01 00:00, both negative before. There are no time zones, no leap seconds and no locale.
 //!
+//! The calendar has the years of [`YEARS`], which are astronomical: year 0 is the one before year 1. Labels of instants and of week
+//! dates have those of [`LABEL_YEARS`] only; of an instant in another year [`split_instant`] gives the fields, and of a day
+//! [`week_from_days`] the week date.
+//!
 //! ```
 //! use ovenquill::{
 //!     civil_from_days, day_of_instant, instant_label, read_instant, week_label, weekday, Date, Refusal, Weekday,

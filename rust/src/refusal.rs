@@ -93,7 +93,7 @@ macro_rules! refusals {
 }
 
 refusals! {
-    /// A year outside [`YEARS`], or a week year outside [`WEEK_YEARS`] or, in a label, outside [`LABEL_YEARS`].
+    /// A year outside [`YEARS`], a week year outside [`WEEK_YEARS`], or either outside [`LABEL_YEARS`] where a label is written.
     YearOutOfRange = 1, (
         "year outside {}..{}, or week year outside {}..{}, in a label {}..{}",
         YEARS.start(),

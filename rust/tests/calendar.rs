@@ -1,5 +1,5 @@
 //! Days, dates and weekdays, every call, against a table of all days that is built by stepping from each day to the next
-//! (tests/support/plain.rs), and against document 01's rows.
+//! (tests/support/plain.rs), and against the rows of document 01 and of change request Eight.
 
 mod support;
 
@@ -9,7 +9,7 @@ use ovenquill::{
 };
 use support::answer::answer;
 use support::answer::Answer::{Refused, Value};
-use support::plain::{self, FIRST_DAY, FIRST_YEAR, LAST_DAY, LAST_YEAR};
+use support::plain::{self, FIRST_DAY, FIRST_LABEL_YEAR, FIRST_YEAR, LAST_DAY, LAST_LABEL_YEAR, LAST_YEAR};
 use support::random::Random;
 
 /// Holds every answer about a count to the table.
@@ -25,6 +25,12 @@ fn try_date(date: Date) {
     assert_eq!(answer(day_of_year(date)), plain::day_of_year(date), "{date:?}");
 }
 
+/// Holds a count and a date to each other.
+fn try_row(days: i64, date: Date) {
+    assert_eq!(civil_from_days(days), Ok(date));
+    assert_eq!(days_from_civil(date), Ok(days));
+}
+
 fn try_month(year: i64, month: i64) {
     assert_eq!(answer(last_day_of_month(year, month)), plain::last_day_of_month(year, month), "{year} {month}");
 }
@@ -34,7 +40,7 @@ fn try_shift(date: Date, days: i64) {
 }
 
 #[test]
-fn ranges_of_document_01() {
+fn ranges_of_document_01_and_change_request_eight() {
     assert_eq!(YEARS, FIRST_YEAR..=LAST_YEAR);
     assert_eq!(MONTHS, 1..=12);
     assert_eq!(DAYS, FIRST_DAY..=LAST_DAY);
@@ -56,8 +62,7 @@ fn rows_of_document_01() {
         (47541, 2100, 3, 1),
         (2932896, 9999, 12, 31),
     ] {
-        assert_eq!(civil_from_days(days), Ok(Date::new(year, month, day)));
-        assert_eq!(days_from_civil(Date::new(year, month, day)), Ok(days));
+        try_row(days, Date::new(year, month, day));
     }
     for (days, name) in [
         (-719528, Weekday::Saturday),
@@ -68,8 +73,6 @@ fn rows_of_document_01() {
     ] {
         assert_eq!(weekday(days), Ok(name));
     }
-    assert_eq!(answer(civil_from_days(LAST_DAY + 1)), Refused(4));
-    assert_eq!(answer(weekday(LAST_DAY + 1)), Refused(4));
     assert_eq!(answer(days_from_civil(Date::new(1900, 2, 29))), Refused(3));
     assert_eq!(answer(days_from_civil(Date::new(2023, 13, 99))), Refused(2));
     assert_eq!(is_leap(0), Ok(true));
@@ -77,6 +80,60 @@ fn rows_of_document_01() {
     assert_eq!(is_leap(2000), Ok(true));
     assert_eq!(day_of_year(Date::new(2000, 12, 31)), Ok(366));
     assert_eq!(day_of_year(Date::new(2100, 12, 31)), Ok(365));
+}
+
+#[test]
+fn rows_of_change_request_eight() {
+    // The ends of the range, the days around the years of labels, and the ends of February in years below zero.
+    for (days, year, month, day) in [
+        (-12407288, -32000, 1, 1),
+        (-12407229, -32000, 2, 29),
+        (-12407228, -32000, 3, 1),
+        (-865566, -400, 2, 29),
+        (-865565, -400, 3, 1),
+        (-755994, -100, 2, 28),
+        (-755993, -100, 3, 1),
+        (-720930, -4, 2, 29),
+        (-720929, -4, 3, 1),
+        (-719893, -1, 1, 1),
+        (-719835, -1, 2, 28),
+        (-719834, -1, 3, 1),
+        (-719529, -1, 12, 31),
+        (2932897, 10000, 1, 1),
+        (2932956, 10000, 2, 29),
+        (10967867, 31999, 1, 1),
+        (10968231, 31999, 12, 31),
+    ] {
+        try_row(days, Date::new(year, month, day));
+    }
+    for (days, name) in [
+        (-12407288, Weekday::Saturday),
+        (-719529, Weekday::Friday),
+        (2932897, Weekday::Saturday),
+        (10968231, Weekday::Friday),
+    ] {
+        assert_eq!(weekday(days), Ok(name));
+    }
+    for days in [-12407289, 10968232] {
+        assert_eq!(answer(civil_from_days(days)), Refused(4));
+        assert_eq!(answer(weekday(days)), Refused(4));
+    }
+    for (year, leap) in
+        [(-32000, true), (-400, true), (-100, false), (-4, true), (-1, false), (10000, true), (31999, false)]
+    {
+        assert_eq!(is_leap(year), Ok(leap), "{year}");
+        assert_eq!(last_day_of_month(year, 2), Ok(if leap { 29 } else { 28 }), "{year}");
+        assert_eq!(day_of_year(Date::new(year, 12, 31)), Ok(if leap { 366 } else { 365 }), "{year}");
+    }
+    for year in [-32001, 32000] {
+        assert_eq!(answer(is_leap(year)), Refused(1));
+        assert_eq!(answer(days_from_civil(Date::new(year, 1, 1))), Refused(1));
+    }
+    assert_eq!(add_days(Date::new(9999, 12, 31), 1), Ok(Date::new(10000, 1, 1)));
+    assert_eq!(add_days(Date::new(0, 1, 1), -1), Ok(Date::new(-1, 12, 31)));
+    assert_eq!(add_days(Date::new(-32000, 1, 1), 23375519), Ok(Date::new(31999, 12, 31)));
+    assert_eq!(answer(add_days(Date::new(-32000, 1, 1), 23375520)), Refused(4));
+    assert_eq!(answer(add_days(Date::new(-32000, 1, 1), -1)), Refused(4));
 }
 
 #[test]
@@ -150,12 +207,10 @@ fn counts_outside_the_range() {
         try_count(FIRST_DAY - beyond);
         try_count(LAST_DAY + beyond);
     }
-    assert_eq!(answer(civil_from_days(FIRST_DAY - 1)), Refused(4));
-    assert_eq!(answer(civil_from_days(LAST_DAY + 1)), Refused(4));
     for days in support::powers() {
         try_count(days);
         // Counts that wrap into the range where a shift is added first.
-        for shift in [FIRST_DAY, LAST_DAY, 719468, 719162, 2440588, 146097] {
+        for shift in [FIRST_DAY, LAST_DAY, 719468, 719162, 2440588, 146097, 719468 + 81 * 146097] {
             try_count(days.wrapping_sub(shift));
             try_count(days.wrapping_add(shift));
         }
@@ -184,16 +239,22 @@ fn refusals_in_their_order() {
     // Each part right, wrong by one on either side, wrong by far: 1 before 2 before 3 before 4.
     let years = [
         i64::MIN,
+        LAST_YEAR - 65536,
         FIRST_YEAR - 4,
         FIRST_YEAR - 1,
         FIRST_YEAR,
+        FIRST_LABEL_YEAR - 4,
+        FIRST_LABEL_YEAR - 1,
+        FIRST_LABEL_YEAR,
         1900,
         2000,
         2023,
+        LAST_LABEL_YEAR,
+        LAST_LABEL_YEAR + 1,
         LAST_YEAR,
         LAST_YEAR + 1,
         LAST_YEAR + 2,
-        LAST_YEAR + 1971,
+        FIRST_YEAR + 65536,
         65536 + 2000,
         i64::MAX,
     ];
@@ -245,6 +306,10 @@ fn shifted_dates() {
     let (first, last) = (Date::new(FIRST_YEAR, 1, 1), Date::new(LAST_YEAR, 12, 31));
     let dates = [
         first,
+        Date::new(-400, 2, 29),
+        Date::new(-100, 3, 1),
+        Date::new(-4, 2, 29),
+        Date::new(-1, 12, 31),
         Date::new(0, 2, 29),
         Date::new(0, 3, 1),
         Date::new(399, 12, 31),
@@ -256,13 +321,14 @@ fn shifted_dates() {
         Date::new(2000, 12, 31),
         Date::new(2023, 5, 10),
         Date::new(2100, 3, 1),
+        Date::new(9999, 12, 31),
         Date::new(LAST_YEAR, 1, 1),
         last,
     ];
     let mut shifts = support::powers();
     shifts.extend(-800..=800);
     shifts.extend((0..19).map(|n| 10i64.pow(n)).flat_map(|power| [power - 1, power, -power, 1 - power]));
-    shifts.extend((1..=26).flat_map(|n| [146097 * n, -146097 * n, 36524 * n, -36524 * n, 1461 * n, -1461 * n]));
+    shifts.extend((1..=161).flat_map(|n| [146097 * n, -146097 * n, 36524 * n, -36524 * n, 1461 * n, -1461 * n]));
     for date in dates {
         for &shift in &shifts {
             try_shift(date, shift);

@@ -24,12 +24,27 @@ fn the_recording_that_is_built_in() {
 #[test]
 fn lines() {
     let expected = "2 parts\n\
-        1969-12-31T23:59:59.999Z  day    -1  1969-12-31  Wednesday\n\
-        2023-05-10T14:30:00.000Z  day 19487  2023-05-10  Wednesday\n";
+        1969-12-31T23:59:59.999Z  day        -1    1969-12-31  Wednesday\n\
+        2023-05-10T14:30:00.000Z  day     19487    2023-05-10  Wednesday\n";
     for input in ["-1\n1683729000000\n", "\n-1\r\n\n \t\n 1683729000000 ", "-1\n1683729000000\n\n"] {
         assert_eq!(run(&["-"], input.as_bytes()), (expected.into(), String::new(), 0), "{input:?}");
     }
     assert_eq!(run(&["-"], b"\n"), ("0 parts\n".into(), String::new(), 0));
+}
+
+#[test]
+fn instants_whose_years_have_no_label() {
+    let expected = "6 parts\n\
+        no label for this year    day -12407288  -32000-01-01  Saturday\n\
+        no label for this year    day   -719529   -0001-12-31  Friday\n\
+        0000-01-01T00:00:00.000Z  day   -719528    0000-01-01  Saturday\n\
+        9999-12-31T23:59:59.999Z  day   2932896    9999-12-31  Friday\n\
+        no label for this year    day   2932897   10000-01-01  Saturday\n\
+        no label for this year    day  10968231   31999-12-31  Friday\n";
+    let instants =
+        [*INSTANTS.start(), -62167219200001, -62167219200000, 253402300799999, 253402300800000, *INSTANTS.end()];
+    let input = instants.map(|instant| format!("{instant}\n")).concat();
+    assert_eq!(run(&["-"], input.as_bytes()), (expected.into(), String::new(), 0));
 }
 
 #[test]

@@ -1,5 +1,5 @@
 //! Instants: day, fields, joining and the recording index, against `div_euclid`, `rem_euclid` and the table of all days
-//! (tests/support/plain.rs), and against document 01's rows.
+//! (tests/support/plain.rs), and against the rows of document 01 and of change request Eight.
 
 mod support;
 
@@ -8,7 +8,8 @@ use std::ops::Range;
 use support::answer::answer;
 use support::answer::Answer::{self, Refused, RefusedAt, Value};
 use support::plain::{
-    self, DAY, FIRST_DAY, FIRST_INSTANT, FIRST_YEAR, HOUR, LAST_DAY, LAST_INSTANT, LAST_YEAR, MINUTE, SECOND,
+    self, DAY, FIRST_DAY, FIRST_INSTANT, FIRST_LABEL_DAY, FIRST_LABEL_INSTANT, FIRST_LABEL_YEAR, FIRST_YEAR, HOUR,
+    LAST_DAY, LAST_INSTANT, LAST_LABEL_DAY, LAST_LABEL_INSTANT, LAST_LABEL_YEAR, LAST_YEAR, MINUTE, SECOND,
 };
 use support::random::Random;
 use support::BAD_INSTANTS;
@@ -31,45 +32,57 @@ fn try_fields(fields: Fields) {
     }
 }
 
+/// Holds an instant and its fields to each other.
+fn try_row(instant: i64, [year, month, day, hour, minute, second, millisecond]: [i64; 7]) {
+    let fields = Fields { year, month, day, hour, minute, second, millisecond };
+    assert_eq!(split_instant(instant), Ok(fields));
+    assert_eq!(join_instant(fields), Ok(instant));
+}
+
 #[test]
-fn range_of_document_01() {
-    assert_eq!((FIRST_INSTANT, LAST_INSTANT), (-62167219200000, 253402300799999));
+fn range_of_change_request_eight() {
+    assert_eq!((FIRST_INSTANT, LAST_INSTANT), (-1071989683200000, 947655244799999));
     assert_eq!(INSTANTS, FIRST_INSTANT..=LAST_INSTANT);
 }
 
 #[test]
 fn rows_of_document_01() {
-    for (instant, day) in [
-        (-86400001, -2),
-        (-86400000, -1),
-        (-1, -1),
-        (0, 0),
-        (86399999, 0),
-        (86400000, 1),
-        (1683729000000, 19487),
-        (FIRST_INSTANT, FIRST_DAY),
-        (LAST_INSTANT, LAST_DAY),
-    ] {
+    for (instant, day) in
+        [(-86400001, -2), (-86400000, -1), (-1, -1), (0, 0), (86399999, 0), (86400000, 1), (1683729000000, 19487)]
+    {
         assert_eq!(day_of_instant(instant), Ok(day));
     }
-    for (instant, [year, month, day, hour, minute, second, millisecond]) in [
-        (1683729000000, [2023, 5, 10, 14, 30, 0, 0]),
-        (-1, [1969, 12, 31, 23, 59, 59, 999]),
-        (FIRST_INSTANT, [FIRST_YEAR, 1, 1, 0, 0, 0, 0]),
-        (LAST_INSTANT, [LAST_YEAR, 12, 31, 23, 59, 59, 999]),
-    ] {
-        let fields = Fields { year, month, day, hour, minute, second, millisecond };
-        assert_eq!(split_instant(instant), Ok(fields));
-        assert_eq!(join_instant(fields), Ok(instant));
-    }
-    for instant in BAD_INSTANTS {
-        assert_eq!(answer(day_of_instant(instant)), Refused(4));
-        assert_eq!(answer(split_instant(instant)), Refused(4));
-    }
+    try_row(1683729000000, [2023, 5, 10, 14, 30, 0, 0]);
+    try_row(-1, [1969, 12, 31, 23, 59, 59, 999]);
     let mut days = [7; 4];
     assert_eq!(index_days(&[-1, 0, 86399999, 86400000], &mut days), Ok(4));
     assert_eq!(days, [-1, 0, 0, 1]);
     assert_eq!(index_days(&[], &mut []), Ok(0));
+}
+
+#[test]
+fn rows_of_change_request_eight() {
+    // Both ends of the range and of the years of labels, and a millisecond beyond the latter.
+    let rows = [
+        (-1071989683200000, -12407288, [-32000, 1, 1, 0, 0, 0, 0]),
+        (-62167219200001, -719529, [-1, 12, 31, 23, 59, 59, 999]),
+        (-62167219200000, -719528, [0, 1, 1, 0, 0, 0, 0]),
+        (253402300799999, 2932896, [9999, 12, 31, 23, 59, 59, 999]),
+        (253402300800000, 2932897, [10000, 1, 1, 0, 0, 0, 0]),
+        (947655244799999, 10968231, [31999, 12, 31, 23, 59, 59, 999]),
+    ];
+    for (instant, day, fields) in rows {
+        assert_eq!(day_of_instant(instant), Ok(day));
+        try_row(instant, fields);
+    }
+    for instant in [-1071989683200001, 947655244800000] {
+        assert_eq!(answer(day_of_instant(instant)), Refused(4));
+        assert_eq!(answer(split_instant(instant)), Refused(4));
+        assert_eq!(answer(index_days(&[0, instant], &mut [7; 2])), RefusedAt(4, 1));
+    }
+    let mut days = [7; 6];
+    assert_eq!(index_days(&rows.map(|row| row.0), &mut days), Ok(6));
+    assert_eq!(days.map(i64::from), rows.map(|row| row.1));
 }
 
 #[test]
@@ -91,7 +104,9 @@ fn around_every_day_boundary() {
 
 #[test]
 fn every_second_around_some_day_boundaries() {
-    for day in [FIRST_DAY, -719468, -25509, -1, 0, 11016, 19487, 47541, LAST_DAY] {
+    let label_days = [FIRST_LABEL_DAY - 1, FIRST_LABEL_DAY, LAST_LABEL_DAY, LAST_LABEL_DAY + 1];
+    let days = [FIRST_DAY, -865566, -720930, -719468, -25509, -1, 0, 11016, 19487, 47541, LAST_DAY];
+    for day in days.into_iter().chain(label_days) {
         for second in 0..=86400 {
             for near in [-1, 0, 1] {
                 try_instant(day * DAY + second * SECOND + near);
@@ -103,9 +118,9 @@ fn every_second_around_some_day_boundaries() {
 #[test]
 fn every_instant_around_the_ends_and_zero() {
     for near in -200_000..=200_000 {
-        try_instant(FIRST_INSTANT + near);
-        try_instant(near);
-        try_instant(LAST_INSTANT + near);
+        for instant in [FIRST_INSTANT, FIRST_LABEL_INSTANT, 0, LAST_LABEL_INSTANT, LAST_INSTANT] {
+            try_instant(instant + near);
+        }
     }
 }
 
@@ -113,7 +128,7 @@ fn every_instant_around_the_ends_and_zero() {
 fn numbers_of_every_size() {
     for number in support::powers() {
         try_instant(number);
-        for shift in [FIRST_INSTANT, LAST_INSTANT, 719468 * DAY, 146097 * DAY] {
+        for shift in [FIRST_INSTANT, LAST_INSTANT, 719468 * DAY, 146097 * DAY, (719468 + 81 * 146097) * DAY] {
             try_instant(number.wrapping_add(shift));
             try_instant(number.wrapping_sub(shift));
         }
@@ -127,7 +142,21 @@ fn numbers_of_every_size() {
 
 #[test]
 fn joined_fields_at_and_beyond_every_limit() {
-    let years = [i64::MIN, FIRST_YEAR - 1, FIRST_YEAR, 1900, 2000, LAST_YEAR, LAST_YEAR + 1, i64::MAX];
+    let years = [
+        i64::MIN,
+        FIRST_YEAR - 1,
+        FIRST_YEAR,
+        -100,
+        FIRST_LABEL_YEAR - 1,
+        FIRST_LABEL_YEAR,
+        1900,
+        2000,
+        LAST_LABEL_YEAR,
+        LAST_LABEL_YEAR + 1,
+        LAST_YEAR,
+        LAST_YEAR + 1,
+        i64::MAX,
+    ];
     let months = [i64::MIN, 0, 1, 2, 4, 12, 13, i64::MAX];
     let days = [i64::MIN, 0, 1, 28, 29, 30, 31, 32, i64::MAX];
     let hours = [i64::MIN, -1, 0, 23, 24, i64::MAX];
@@ -325,12 +354,23 @@ fn indexes_of_many_lengths() {
 fn indexes_with_a_new_day_at_every_place() {
     for length in lengths() {
         for place in 0..=length {
-            for new_day in [FIRST_INSTANT + DAY, -DAY, 0, LAST_INSTANT + 1 - DAY] {
+            for new_day in
+                [FIRST_INSTANT + DAY, FIRST_LABEL_INSTANT, -DAY, 0, LAST_LABEL_INSTANT + 1, LAST_INSTANT + 1 - DAY]
+            {
                 let first = new_day - place as i64;
                 let instants: Vec<i64> = (first..).take(length).collect();
                 assert_eq!(try_index(&instants, length), Value(length));
             }
         }
+    }
+}
+
+#[test]
+fn indexes_around_every_day_boundary() {
+    for first in (FIRST_DAY..=LAST_DAY).step_by(1000) {
+        let days = first..=LAST_DAY.min(first + 999);
+        let instants: Vec<i64> = days.flat_map(|day| [day * DAY, day * DAY + DAY - 1]).collect();
+        assert_eq!(try_index(&instants, instants.len()), Value(instants.len()));
     }
 }
 
@@ -476,7 +516,7 @@ fn indexes_at_the_ends_of_the_range() {
 #[test]
 fn indexes_of_two_numbers_of_every_size() {
     let mut numbers = support::powers();
-    for middle in [FIRST_INSTANT, -DAY, DAY, LAST_INSTANT] {
+    for middle in [FIRST_INSTANT, FIRST_LABEL_INSTANT, -DAY, DAY, LAST_LABEL_INSTANT, LAST_INSTANT] {
         numbers.extend(middle - 1..=middle + 1);
     }
     for &earlier in &numbers {
@@ -489,7 +529,7 @@ fn indexes_of_two_numbers_of_every_size() {
 
 #[test]
 fn every_short_index_of_close_instants() {
-    for middle in [FIRST_INSTANT, -DAY, 0, DAY, LAST_INSTANT] {
+    for middle in [FIRST_INSTANT, FIRST_LABEL_INSTANT, -DAY, 0, DAY, LAST_LABEL_INSTANT, LAST_INSTANT] {
         let close: Vec<i64> = (middle - 3..=middle + 3).collect();
         for instants in (0..=6).flat_map(|length| every_list(&close, length)) {
             try_index(&instants, instants.len());

@@ -1,6 +1,6 @@
 //! Labels: the writers of instant and position labels against `write!` and `format!`, the reader against a checker that goes
-//! byte by byte (tests/support/plain.rs), all three against document 01's rows, small letters, and the labels that are held
-//! by value. Week labels are tried here as text only, and for the rest in tests/weeks.rs.
+//! byte by byte (tests/support/plain.rs), all three against document 01's rows, the years that have no label, small letters, and
+//! the labels that are held by value. Week labels are tried here as text only, and for the rest in tests/weeks.rs.
 
 mod support;
 
@@ -12,18 +12,29 @@ use std::collections::HashSet;
 use support::answer::answer;
 use support::answer::Answer::{Refused, Value};
 use support::plain::{
-    self, DAY, FIRST_DAY, FIRST_INSTANT, FIRST_YEAR, LABEL_BYTES, LAST_DAY, LAST_INSTANT, LAST_POSITION, LAST_YEAR,
-    POSITION_HOUR, POSITION_MINUTE, POSITION_SECOND, SECOND,
+    self, DAY, FIRST_DAY, FIRST_INSTANT, FIRST_LABEL_DAY, FIRST_LABEL_INSTANT, FIRST_LABEL_YEAR, LABEL_BYTES, LAST_DAY,
+    LAST_INSTANT, LAST_LABEL_DAY, LAST_LABEL_INSTANT, LAST_LABEL_YEAR, LAST_POSITION, POSITION_HOUR, POSITION_MINUTE,
+    POSITION_SECOND, SECOND,
 };
 use support::random::Random;
-use support::try_writing;
+use support::{try_writing, BAD_INSTANTS};
 
-/// Writes the label of an instant in the range, holds it to the plain one and reads it again.
+/// Instants in the range whose years have no label, the farthest and the nearest on each side.
+const WITHOUT_LABEL: [i64; 4] = [FIRST_INSTANT, FIRST_LABEL_INSTANT - 1, LAST_LABEL_INSTANT + 1, LAST_INSTANT];
+
+/// Writes the label of an instant that has one, holds it to the plain one and reads it again.
 fn try_label(instant: i64) {
     let mut label = [b'?'; LABEL_BYTES];
     assert_eq!(write_instant(instant, &mut label), Ok(LABEL_BYTES), "{instant}");
     assert_eq!(label, plain::instant_label(instant), "{instant}");
     assert_eq!(read_instant(&label), Ok(instant), "{instant}");
+}
+
+/// Has the label of an instant without one refused with 1, which changes no byte.
+fn try_no_label(instant: i64) {
+    let mut label = [b'?'; LABEL_BYTES];
+    assert_eq!(answer(write_instant(instant, &mut label)), Refused(1), "{instant}");
+    assert_eq!(label, [b'?'; LABEL_BYTES], "{instant}");
 }
 
 /// Reads any bytes and holds the answer to the plain reader's; what is accepted is written again, in capitals.
@@ -67,8 +78,8 @@ fn rows_of_document_01() {
         (1683729000000, b"2023-05-10T14:30:00.000Z"),
         (-1, b"1969-12-31T23:59:59.999Z"),
         (0, b"1970-01-01T00:00:00.000Z"),
-        (FIRST_INSTANT, b"0000-01-01T00:00:00.000Z"),
-        (LAST_INSTANT, b"9999-12-31T23:59:59.999Z"),
+        (-62167219200000, b"0000-01-01T00:00:00.000Z"),
+        (253402300799999, b"9999-12-31T23:59:59.999Z"),
     ] {
         let mut out = [0; LABEL_BYTES];
         assert_eq!(write_instant(instant, &mut out), Ok(LABEL_BYTES));
@@ -96,13 +107,40 @@ fn rows_of_document_01() {
     assert_eq!(answer(write_position(360000000000, &mut [0; 15])), Refused(6));
 }
 
+#[test]
+fn rows_of_change_request_eight() {
+    // A millisecond beyond the years of labels, the ends of the range and a millisecond beyond these.
+    for (instant, refusal) in [
+        (-1071989683200001, 4),
+        (-1071989683200000, 1),
+        (-62167219200001, 1),
+        (253402300800000, 1),
+        (947655244799999, 1),
+        (947655244800000, 4),
+    ] {
+        for length in [0, LABEL_BYTES - 1, LABEL_BYTES, LABEL_BYTES + 1] {
+            let mut out = vec![b'?'; length];
+            assert_eq!(answer(write_instant(instant, &mut out)), Refused(refusal), "{instant} in {length} bytes");
+            assert_eq!(out, vec![b'?'; length], "{instant} in {length} bytes");
+        }
+    }
+}
+
 // Writing instants
 
 #[test]
 fn labels_around_every_day_boundary() {
-    for day in FIRST_DAY..=LAST_DAY {
+    for day in FIRST_LABEL_DAY..=LAST_LABEL_DAY {
         try_label(day * DAY);
         try_label(day * DAY + DAY - 1);
+    }
+}
+
+#[test]
+fn no_labels_around_every_other_day_boundary() {
+    for day in (FIRST_DAY..FIRST_LABEL_DAY).chain(LAST_LABEL_DAY + 1..=LAST_DAY) {
+        try_no_label(day * DAY);
+        try_no_label(day * DAY + DAY - 1);
     }
 }
 
@@ -110,7 +148,19 @@ fn labels_around_every_day_boundary() {
 fn labels_of_random_instants() {
     let mut random = Random::new(11);
     for _ in 0..5_000_000 {
-        try_label(random.within(FIRST_INSTANT, LAST_INSTANT));
+        try_label(random.within(FIRST_LABEL_INSTANT, LAST_LABEL_INSTANT));
+        try_no_label(random.within(FIRST_INSTANT, FIRST_LABEL_INSTANT - 1));
+        try_no_label(random.within(LAST_LABEL_INSTANT + 1, LAST_INSTANT));
+    }
+}
+
+#[test]
+fn every_instant_around_the_ends_of_the_years_of_labels() {
+    for near in 0..200_000 {
+        try_no_label(FIRST_LABEL_INSTANT - 1 - near);
+        try_label(FIRST_LABEL_INSTANT + near);
+        try_label(LAST_LABEL_INSTANT - near);
+        try_no_label(LAST_LABEL_INSTANT + 1 + near);
     }
 }
 
@@ -126,21 +176,24 @@ fn labels_of_every_second_and_around_zero() {
 
 #[test]
 fn instants_in_buffers_of_every_length() {
-    let outside = [FIRST_INSTANT - 1, LAST_INSTANT + 1, i64::MIN, i64::MAX];
-    let inside = [FIRST_INSTANT, LAST_INSTANT, -1, 0, 1683729000000];
+    let with_label = [FIRST_LABEL_INSTANT, LAST_LABEL_INSTANT, -1, 0, 1683729000000];
+    let chosen = || BAD_INSTANTS.into_iter().chain(WITHOUT_LABEL).chain(with_label);
     for length in 0..=40 {
-        for instant in outside.into_iter().chain(inside).chain(support::powers()) {
+        for instant in chosen().chain(support::powers()) {
             try_writing(write_instant, plain::write_instant, instant, length);
         }
     }
     for length in support::lengths() {
-        for instant in outside.into_iter().chain(inside) {
+        for instant in chosen() {
             try_writing(write_instant, plain::write_instant, instant, length);
         }
     }
-    // 4 before 7.
-    assert_eq!(answer(write_instant(i64::MAX, &mut [0; LABEL_BYTES - 1])), Refused(4));
-    assert_eq!(answer(write_instant(0, &mut [0; LABEL_BYTES - 1])), Refused(7));
+    // 4 before 1 before 7.
+    for (instants, refusal) in [(&BAD_INSTANTS[..], 4), (&WITHOUT_LABEL, 1), (&with_label, 7)] {
+        for &instant in instants {
+            assert_eq!(answer(write_instant(instant, &mut [0; LABEL_BYTES - 1])), Refused(refusal), "{instant}");
+        }
+    }
 }
 
 // Reading instants
@@ -151,7 +204,7 @@ fn labels_of_every_length() {
     let mut random = Random::new(12);
     let label_end = 20 + LABEL_BYTES;
     for around in 0..=255u8 {
-        let label = plain::instant_label(random.within(FIRST_INSTANT, LAST_INSTANT));
+        let label = plain::instant_label(random.within(FIRST_LABEL_INSTANT, LAST_LABEL_INSTANT));
         for length in 0..=40 {
             let mut bytes = [around; 80];
             bytes[20..label_end].copy_from_slice(&label);
@@ -167,7 +220,7 @@ fn labels_of_every_length() {
     }
     // A right label at the front, at the end and over and over.
     for length in support::lengths().filter(|&length| length > LABEL_BYTES) {
-        let label = plain::instant_label(random.within(FIRST_INSTANT, LAST_INSTANT));
+        let label = plain::instant_label(random.within(FIRST_LABEL_INSTANT, LAST_LABEL_INSTANT));
         let mut bytes = vec![b'0'; length];
         bytes[..LABEL_BYTES].copy_from_slice(&label);
         try_reading(&bytes);
@@ -180,8 +233,8 @@ fn labels_of_every_length() {
 #[test]
 fn one_byte_damaged_at_every_place_with_every_value() {
     let mut random = Random::new(13);
-    let mut instants = vec![FIRST_INSTANT, LAST_INSTANT, 0, -1, 1683729000000];
-    instants.extend((0..200).map(|_| random.within(FIRST_INSTANT, LAST_INSTANT)));
+    let mut instants = vec![FIRST_LABEL_INSTANT, LAST_LABEL_INSTANT, 0, -1, 1683729000000];
+    instants.extend((0..200).map(|_| random.within(FIRST_LABEL_INSTANT, LAST_LABEL_INSTANT)));
     for instant in instants {
         let label = plain::instant_label(instant);
         for place in 0..LABEL_BYTES {
@@ -214,7 +267,7 @@ fn small_letters() {
     let mut taken = Vec::new();
     for t in 0..=255 {
         for z in 0..=255 {
-            let label = with_letters(random.within(FIRST_INSTANT, LAST_INSTANT), t, z);
+            let label = with_letters(random.within(FIRST_LABEL_INSTANT, LAST_LABEL_INSTANT), t, z);
             try_reading(&label);
             if read_instant(&label).is_ok() {
                 taken.push([t, z]);
@@ -229,7 +282,7 @@ fn several_bytes_damaged() {
     let mut random = Random::new(14);
     let likely = b"0123456789-:.TZtz /+\0\x2f\x3a\x80\xb0\xff";
     for _ in 0..3_000_000 {
-        let mut label = plain::instant_label(random.within(FIRST_INSTANT, LAST_INSTANT));
+        let mut label = plain::instant_label(random.within(FIRST_LABEL_INSTANT, LAST_LABEL_INSTANT));
         for _ in 0..random.within(2, 6) {
             let place = random.within(0, LABEL_BYTES as i64 - 1) as usize;
             label[place] = random.choose(likely);
@@ -252,12 +305,12 @@ fn every_value_of_every_field() {
             try_reading(text.as_bytes());
         }
     };
-    for year in FIRST_YEAR..=LAST_YEAR {
+    for year in FIRST_LABEL_YEAR..=LAST_LABEL_YEAR {
         for month_day in ["01-01", "02-28", "02-29", "02-30", "04-31", "12-31", "13-01", "00-00"] {
             read(&format!("{year:04}-{month_day}"), "23:59:59.999");
         }
     }
-    for year in [FIRST_YEAR, 1, 4, 100, 400, 1900, 2000, 2023, 2100, LAST_YEAR] {
+    for year in [FIRST_LABEL_YEAR, 1, 4, 100, 400, 1900, 2000, 2023, 2100, LAST_LABEL_YEAR] {
         for month in 0..=99 {
             for day in 0..=99 {
                 let date = format!("{year:04}-{month:02}-{day:02}");
@@ -295,6 +348,9 @@ fn the_reader_refuses_in_order() {
         (b"2023-05-10T14:30:00.000\xfa", 8),
         (b"2023-05-10T14:30:00.00tZ", 8),
         (b"+023-05-10T14:30:00.000Z", 8),
+        (b"-001-12-31T23:59:59.999Z", 8),
+        (b"-0001-12-31T23:59:59.999Z", 8),
+        (b"10000-01-01T00:00:00.000Z", 8),
         (b"2023-05-10T14:30:00,000Z", 8),
         (b"2023-13-99T99:99:99.99xZ", 8),
         (b"2023-13-99T99:99:99.999Z", 2),
@@ -390,7 +446,7 @@ fn instant_labels_by_value() {
     let mut random = Random::new(22);
     let mut before: Option<(i64, InstantLabel)> = None;
     for _ in 0..300_000 {
-        let instant = random.within(FIRST_INSTANT, LAST_INSTANT);
+        let instant = random.within(FIRST_LABEL_INSTANT, LAST_LABEL_INSTANT);
         let expected = plain::instant_label(instant);
         let text = std::str::from_utf8(&expected).unwrap();
         let label = instant_label(instant).unwrap();
@@ -404,8 +460,11 @@ fn instant_labels_by_value() {
         }
         before = Some((instant, label));
     }
-    for instant in [FIRST_INSTANT - 1, LAST_INSTANT + 1, i64::MIN, i64::MAX] {
+    for instant in BAD_INSTANTS {
         assert_eq!(instant_label(instant), Err(Refusal::OutOfRange));
+    }
+    for instant in WITHOUT_LABEL {
+        assert_eq!(instant_label(instant), Err(Refusal::YearOutOfRange));
     }
     assert_eq!("2023-02-29T00:00:00.000Z".parse::<InstantLabel>(), Err(Refusal::DayOutOfRange));
     assert_eq!(InstantLabel::try_from(&b"\xff"[..]), Err(Refusal::MalformedLabel));

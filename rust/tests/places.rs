@@ -8,10 +8,13 @@ use std::fmt::Debug;
 use std::ptr;
 use support::answer::Answer::{self, Refused, RefusedAt, Value};
 use support::plain::{
-    self, FIRST_DAY, FIRST_INSTANT, FIRST_YEAR, HALF_WRAP, LARGEST, LAST_CLOCK_POSITION, LAST_DAY, LAST_INSTANT,
-    LAST_POSITION, LAST_YEAR, SECOND, WRAP,
+    self, FIRST_DAY, FIRST_INSTANT, FIRST_LABEL_INSTANT, FIRST_LABEL_YEAR, FIRST_YEAR, HALF_WRAP, LARGEST,
+    LAST_CLOCK_POSITION, LAST_DAY, LAST_INSTANT, LAST_LABEL_INSTANT, LAST_LABEL_YEAR, LAST_POSITION, LAST_YEAR, SECOND,
+    WRAP,
 };
-use support::plain_weeks::{self, FIRST_WEEK_YEAR, LAST_WEEK_YEAR, WEEK_LABEL_BYTES};
+use support::plain_weeks::{
+    self, FIRST_WEEK_LABEL_DAY, FIRST_WEEK_YEAR, LAST_WEEK_LABEL_DAY, LAST_WEEK_YEAR, WEEK_LABEL_BYTES,
+};
 use support::random::Random;
 use support::BAD_INSTANTS;
 
@@ -232,7 +235,7 @@ fn some_label(random: &mut Random, label: &[u8], bytes: &[u8]) -> Vec<u8> {
 fn the_reader_of_instant_labels() {
     let mut random = Random::new(28);
     for _ in 0..300_000 {
-        let label = plain::instant_label(random.within(FIRST_INSTANT, LAST_INSTANT));
+        let label = plain::instant_label(random.within(FIRST_LABEL_INSTANT, LAST_LABEL_INSTANT));
         let label = some_label(&mut random, &label, b"0123456789-:.TZ");
         try_place(plain::read_instant(&label), BEFORE, |instant| unsafe {
             raw::ovenquill_read_instant(label.as_ptr(), label.len(), instant)
@@ -243,10 +246,10 @@ fn the_reader_of_instant_labels() {
 #[test]
 fn the_reader_of_week_labels() {
     let mut random = Random::new(67);
-    let mut seen = [0; 4];
+    let mut seen = [0; 3];
     for _ in 0..300_000 {
-        let [any_year, any_week] = [random.within(0, LAST_WEEK_YEAR), random.within(0, 99)];
-        let year = random.choose(&[any_year, LAST_WEEK_YEAR]);
+        let [any_year, any_week] = [random.within(FIRST_LABEL_YEAR, LAST_LABEL_YEAR), random.within(0, 99)];
+        let year = random.choose(&[any_year, any_year, FIRST_LABEL_YEAR, LAST_LABEL_YEAR]);
         let week = random.choose(&[any_week, 1, 52, 53]);
         let label = plain_weeks::week_label(WeekDate { year, week, weekday: random.within(1, 7) });
         let label = some_label(&mut random, &label, b"0123456789-W");
@@ -255,11 +258,10 @@ fn the_reader_of_week_labels() {
         seen[match days {
             Value(_) => 0,
             Refused(8) => 1,
-            Refused(16) => 2,
-            _ => 3,
+            _ => 2,
         }] += 1;
     }
-    assert!(seen.iter().all(|&times| times > 5_000), "read, refused by 8, by 16 and by 4: {seen:?}");
+    assert!(seen.iter().all(|&times| times > 5_000), "read, refused by 8 and by 16: {seen:?}");
 }
 
 #[test]
@@ -409,7 +411,21 @@ fn writers() {
         (0, WEEK_LABEL_BYTES - 1, -7, -7, -7),
         (-1, 11, -7, WEEK_LABEL_BYTES as i64, -6),
         (FIRST_DAY, WEEK_LABEL_BYTES, -7, -1, -6),
-        (FIRST_DAY + 1, 0, -7, -1, -6),
+        (FIRST_DAY - 1, 0, -7, -4, -6),
+        (FIRST_WEEK_LABEL_DAY - 1, 0, -7, -1, -6),
+        (FIRST_WEEK_LABEL_DAY, WEEK_LABEL_BYTES, -7, WEEK_LABEL_BYTES as i64, -6),
+        (LAST_WEEK_LABEL_DAY, WEEK_LABEL_BYTES, -7, WEEK_LABEL_BYTES as i64, -7),
+        (LAST_WEEK_LABEL_DAY + 1, WEEK_LABEL_BYTES, -7, -1, -7),
+        (LAST_DAY, 0, -7, -1, -7),
+        (LAST_DAY + 1, 0, -7, -4, -7),
+        (FIRST_INSTANT - 1, 0, -4, -4, -6),
+        (FIRST_INSTANT, 0, -1, -4, -6),
+        (FIRST_LABEL_INSTANT - 1, plain::LABEL_BYTES - 1, -1, -4, -6),
+        (FIRST_LABEL_INSTANT, plain::LABEL_BYTES - 1, -7, -4, -6),
+        (FIRST_LABEL_INSTANT, plain::LABEL_BYTES, plain::LABEL_BYTES as i64, -4, -6),
+        (LAST_LABEL_INSTANT, plain::LABEL_BYTES, plain::LABEL_BYTES as i64, -4, -6),
+        (LAST_LABEL_INSTANT + 1, plain::LABEL_BYTES, -1, -4, -6),
+        (LAST_INSTANT, plain::LABEL_BYTES, -1, -4, -6),
         (i64::MAX, 40, -4, -4, -6),
         (i64::MIN, 0, -4, -4, -6),
     ] {
@@ -431,8 +447,12 @@ fn writers() {
 #[test]
 fn no_slice_at_all() {
     // As C may lend it: null, with the length 0.
-    assert_eq!(unsafe { raw::ovenquill_write_instant(0, ptr::null_mut(), 0) }, -7);
-    assert_eq!(unsafe { raw::ovenquill_write_week(0, ptr::null_mut(), 0) }, -7);
+    for (instant, returns) in [(0, -7), (FIRST_INSTANT, -1), (LAST_INSTANT, -1), (LAST_INSTANT + 1, -4)] {
+        assert_eq!(unsafe { raw::ovenquill_write_instant(instant, ptr::null_mut(), 0) }, returns);
+    }
+    for (days, returns) in [(0, -7), (FIRST_DAY, -1), (LAST_DAY, -1), (LAST_DAY + 1, -4)] {
+        assert_eq!(unsafe { raw::ovenquill_write_week(days, ptr::null_mut(), 0) }, returns);
+    }
     assert_eq!(unsafe { raw::ovenquill_write_position(0, ptr::null_mut(), 0) }, -7);
     let read = lend(BEFORE, |instant| unsafe { raw::ovenquill_read_instant(ptr::null(), 0, instant) });
     assert_eq!(read, (-8, BEFORE));

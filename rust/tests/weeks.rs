@@ -1,21 +1,23 @@
 //! Week dates and their labels, every call, against a table of all days that is built by counting Thursdays
-//! (tests/support/plain_weeks.rs), and against the words of change request Seven.
+//! (tests/support/plain_weeks.rs), and against the words of change requests Seven and Eight.
 
 mod support;
 
 use ovenquill::{
-    days_from_civil, days_from_week, read_week, week_from_days, week_label, weekday, write_week, Date, Refusal,
-    WeekDate, WeekLabel, Weekday, LABEL_YEARS, WEEK_LABEL_BYTES, WEEK_YEARS,
+    civil_from_days, days_from_civil, days_from_week, read_week, week_from_days, week_label, weekday, write_week, Date,
+    Refusal, WeekDate, WeekLabel, Weekday, LABEL_YEARS, WEEK_LABEL_BYTES, WEEK_YEARS,
 };
 use support::answer::answer;
 use support::answer::Answer::{Refused, Value};
-use support::plain::{FIRST_DAY, FIRST_YEAR, LAST_DAY, LAST_YEAR};
-use support::plain_weeks::{self as plain, FIRST_LABEL_YEAR, FIRST_WEEK_YEAR, LAST_LABEL_YEAR, LAST_WEEK_YEAR};
+use support::plain::{FIRST_DAY, FIRST_LABEL_YEAR, FIRST_YEAR, LAST_DAY, LAST_LABEL_YEAR, LAST_YEAR};
+use support::plain_weeks::{self as plain, FIRST_WEEK_LABEL_DAY, FIRST_WEEK_YEAR, LAST_WEEK_LABEL_DAY, LAST_WEEK_YEAR};
 use support::random::Random;
 use support::try_writing;
 
-/// The first day whose week year has a label.
-const FIRST_LABEL_DAY: i64 = FIRST_DAY + 2;
+/// Counts outside the range.
+const OUTSIDE: [i64; 4] = [FIRST_DAY - 1, LAST_DAY + 1, i64::MIN, i64::MAX];
+/// Counts in the range whose week years have no label, the farthest and the nearest on each side.
+const WITHOUT_LABEL: [i64; 4] = [FIRST_DAY, FIRST_WEEK_LABEL_DAY - 1, LAST_WEEK_LABEL_DAY + 1, LAST_DAY];
 
 /// Holds every answer about a count to the plain one.
 fn try_count(days: i64) {
@@ -54,8 +56,8 @@ fn has_week(year: i64, week: i64) -> bool {
 }
 
 #[test]
-fn ranges_of_change_request_seven() {
-    assert_eq!((FIRST_WEEK_YEAR, LAST_WEEK_YEAR), (-1, 9999));
+fn ranges_of_change_requests_seven_and_eight() {
+    assert_eq!((FIRST_WEEK_YEAR, LAST_WEEK_YEAR), (-32001, 31999));
     assert_eq!(WEEK_YEARS, FIRST_WEEK_YEAR..=LAST_WEEK_YEAR);
     assert_eq!(LABEL_YEARS, FIRST_LABEL_YEAR..=LAST_LABEL_YEAR);
     assert_eq!(WEEK_LABEL_BYTES, plain::WEEK_LABEL_BYTES);
@@ -86,6 +88,52 @@ fn rows_of_change_request_seven() {
         (WeekDate::new(LAST_WEEK_YEAR, 52, 7), Refused(4)),
     ] {
         assert_eq!(answer(days_from_week(date)), wanted, "{date}");
+    }
+}
+
+#[test]
+fn rows_of_change_request_eight() {
+    // The ends of the range, days of week years below zero, and those around the years of labels.
+    for (days, date, week_date, has_label) in [
+        (-12407288, "-32000-01-01", "-32001-W52-6", false),
+        (-12407287, "-32000-01-02", "-32001-W52-7", false),
+        (-12407286, "-32000-01-03", "-32000-W01-1", false),
+        (-865566, "-0400-02-29", "-0400-W09-2", false),
+        (-755993, "-0100-03-01", "-0100-W09-4", false),
+        (-720930, "-0004-02-29", "-0004-W09-4", false),
+        (-719893, "-0001-01-01", "-0002-W53-5", false),
+        (-719529, "-0001-12-31", "-0001-W52-5", false),
+        (-719528, "0000-01-01", "-0001-W52-6", false),
+        (-719527, "0000-01-02", "-0001-W52-7", false),
+        (-719526, "0000-01-03", "0000-W01-1", true),
+        (2932896, "9999-12-31", "9999-W52-5", true),
+        (2932897, "10000-01-01", "9999-W52-6", true),
+        (2932898, "10000-01-02", "9999-W52-7", true),
+        (2932899, "10000-01-03", "10000-W01-1", false),
+        (10968231, "31999-12-31", "31999-W52-5", false),
+    ] {
+        assert_eq!(civil_from_days(days).unwrap().to_string(), date);
+        let week = week_from_days(days).unwrap();
+        assert_eq!(week.to_string(), week_date);
+        assert_eq!(days_from_week(week), Ok(days), "{week_date}");
+        if has_label {
+            assert_eq!(week_label(days).unwrap(), week_date);
+            assert_eq!(read_week(week_date.as_bytes()), Ok(days), "{week_date}");
+        } else {
+            assert_eq!(answer(week_label(days)), Refused(1), "{week_date}");
+        }
+    }
+    for (date, refusal) in [
+        (WeekDate::new(-32002, 52, 7), 1),
+        (WeekDate::new(-32001, 52, 5), 4),
+        (WeekDate::new(-32001, 53, 6), 16),
+        (WeekDate::new(-1, 53, 1), 16),
+        (WeekDate::new(9999, 53, 1), 16),
+        (WeekDate::new(31999, 52, 6), 4),
+        (WeekDate::new(31999, 53, 1), 16),
+        (WeekDate::new(32000, 1, 1), 1),
+    ] {
+        assert_eq!(answer(days_from_week(date)), Refused(refusal), "{date}");
     }
 }
 
@@ -158,7 +206,7 @@ fn counts_outside_the_range() {
     for days in support::powers() {
         try_count(days);
         // Counts that wrap into the range where a shift is added first.
-        for shift in [FIRST_DAY, LAST_DAY, 719162, 719468, 865259, 146097, 3, 4] {
+        for shift in [FIRST_DAY, LAST_DAY, 719162, 719468, 865259, 146097, 719162 + 81 * 146097, 3, 4] {
             try_count(days.wrapping_sub(shift));
             try_count(days.wrapping_add(shift));
         }
@@ -182,8 +230,9 @@ fn every_year_with_weeks_and_weekdays_at_their_limits() {
 
 #[test]
 fn every_week_and_weekday_of_years_near_a_limit_or_of_53_weeks() {
-    let near_limits = (FIRST_WEEK_YEAR - 5..=10).chain(LAST_WEEK_YEAR - 10..=LAST_WEEK_YEAR + 5);
-    for year in near_limits.chain(1890..=2110) {
+    let limits = [FIRST_WEEK_YEAR, FIRST_LABEL_YEAR, LAST_LABEL_YEAR, LAST_WEEK_YEAR];
+    let near_limits = limits.into_iter().flat_map(|limit| limit - 10..=limit + 10);
+    for year in near_limits.chain(-410..=-90).chain(1890..=2110) {
         for week in -2..=56 {
             for weekday in -1..=9 {
                 try_week(year, week, weekday);
@@ -196,7 +245,8 @@ fn every_week_and_weekday_of_years_near_a_limit_or_of_53_weeks() {
 fn refusals_in_their_order() {
     // Each part right, wrong by one on either side, wrong by far: 1 before 16 before 4.
     let near_ends = [FIRST_WEEK_YEAR, LAST_WEEK_YEAR].into_iter().flat_map(|end| end - 2..=end + 2);
-    let years = near_ends.chain([i64::MIN, 4, 2020, 2023, 65536 + 2020, i64::MAX]);
+    let right_where_cut_off = [FIRST_WEEK_YEAR + 65536, LAST_WEEK_YEAR - 65536, 65536 + 2020];
+    let years = near_ends.chain(right_where_cut_off).chain([i64::MIN, -1, 0, 4, 2020, 2023, 9999, 10000, i64::MAX]);
     let weeks = [i64::MIN, -1, 0, 1, 2, 51, 52, 53, 54, 99, 256 + 1, i64::MAX];
     let weekdays = [i64::MIN, -1, 0, 1, 5, 6, 7, 8, 9, 256 + 1, i64::MAX];
     for year in years {
@@ -273,23 +323,24 @@ fn week_dates_as_text() {
 
 #[test]
 fn counts_in_buffers_of_every_length() {
-    let outside = [FIRST_DAY - 1, LAST_DAY + 1, i64::MIN, i64::MAX];
-    let without_label = [FIRST_DAY, FIRST_LABEL_DAY - 1];
-    let inside = [FIRST_LABEL_DAY, LAST_DAY, -1, 0, 19487];
+    let with_label = [FIRST_WEEK_LABEL_DAY, LAST_WEEK_LABEL_DAY, -1, 0, 19487];
+    let chosen = || OUTSIDE.into_iter().chain(WITHOUT_LABEL).chain(with_label);
     for length in 0..=24 {
-        for days in outside.into_iter().chain(without_label).chain(inside).chain(support::powers()) {
+        for days in chosen().chain(support::powers()) {
             try_writing(write_week, plain::write_week, days, length);
         }
     }
     for length in support::lengths() {
-        for days in outside.into_iter().chain(without_label).chain(inside) {
+        for days in chosen() {
             try_writing(write_week, plain::write_week, days, length);
         }
     }
     // 4 before 1 before 7.
-    assert_eq!(answer(write_week(FIRST_DAY - 1, &mut [])), Refused(4));
-    assert_eq!(answer(write_week(FIRST_DAY, &mut [])), Refused(1));
-    assert_eq!(answer(write_week(FIRST_LABEL_DAY, &mut [])), Refused(7));
+    for (counts, refusal) in [(&OUTSIDE[..], 4), (&WITHOUT_LABEL, 1), (&with_label, 7)] {
+        for &days in counts {
+            assert_eq!(answer(write_week(days, &mut [0; WEEK_LABEL_BYTES - 1])), Refused(refusal), "{days}");
+        }
+    }
 }
 
 // Reading labels
@@ -306,6 +357,8 @@ fn every_label_of_the_right_shape() {
             for weekday in b'0'..=b'9' {
                 label[9] = weekday;
                 try_reading(&label);
+                // No week date of a label lies outside the range.
+                assert!(matches!(answer(read_week(&label)), Value(_) | Refused(16)));
             }
         }
     }
@@ -317,7 +370,7 @@ fn labels_of_every_length() {
     let mut random = Random::new(62);
     let label_end = 20 + WEEK_LABEL_BYTES;
     for around in 0..=255u8 {
-        let label = label_of(random.within(FIRST_LABEL_DAY, LAST_DAY));
+        let label = label_of(random.within(FIRST_WEEK_LABEL_DAY, LAST_WEEK_LABEL_DAY));
         for length in 0..=20 {
             let mut bytes = [around; 50];
             bytes[20..label_end].copy_from_slice(&label);
@@ -332,7 +385,7 @@ fn labels_of_every_length() {
     }
     // A right label at the front, at the end and over and over.
     for length in support::lengths().filter(|&length| length > WEEK_LABEL_BYTES) {
-        let label = label_of(random.within(FIRST_LABEL_DAY, LAST_DAY));
+        let label = label_of(random.within(FIRST_WEEK_LABEL_DAY, LAST_WEEK_LABEL_DAY));
         let mut bytes = vec![b'0'; length];
         bytes[..WEEK_LABEL_BYTES].copy_from_slice(&label);
         try_reading(&bytes);
@@ -345,8 +398,8 @@ fn labels_of_every_length() {
 #[test]
 fn one_byte_damaged_at_every_place_with_every_value() {
     let mut random = Random::new(63);
-    let mut counts = vec![FIRST_LABEL_DAY, LAST_DAY, 0, -1, 19487];
-    counts.extend((0..200).map(|_| random.within(FIRST_LABEL_DAY, LAST_DAY)));
+    let mut counts = vec![FIRST_WEEK_LABEL_DAY, LAST_WEEK_LABEL_DAY, 0, -1, 19487];
+    counts.extend((0..200).map(|_| random.within(FIRST_WEEK_LABEL_DAY, LAST_WEEK_LABEL_DAY)));
     for days in counts {
         let label = label_of(days);
         for place in 0..WEEK_LABEL_BYTES {
@@ -364,7 +417,7 @@ fn several_bytes_damaged() {
     let mut random = Random::new(64);
     let likely = b"0123456789-Ww+ /:\0\x2f\x3a\x80\xb0\xd7\xff";
     for _ in 0..1_000_000 {
-        let mut label = label_of(random.within(FIRST_LABEL_DAY, LAST_DAY));
+        let mut label = label_of(random.within(FIRST_WEEK_LABEL_DAY, LAST_WEEK_LABEL_DAY));
         for _ in 0..random.within(2, 4) {
             let place = random.within(0, WEEK_LABEL_BYTES as i64 - 1) as usize;
             label[place] = random.choose(likely);
@@ -392,6 +445,7 @@ fn the_reader_refuses_in_order() {
         (b"2023_W19-3", 8),
         (b"+023-W19-3", 8),
         (b"-001-W52-6", 8),
+        (b"10000-W01-1", 8),
         (b"9999-W99-x", 8),
         (b"x999-W00-0", 8),
         (b"9999-W53-6", 16),
@@ -402,8 +456,7 @@ fn the_reader_refuses_in_order() {
         (b"2023-W19-0", 16),
         (b"2023-W19-8", 16),
         (b"2023-W19-9", 16),
-        (b"9999-W52-6", 4),
-        (b"9999-W52-7", 4),
+        (b"9999-W53-1", 16),
     ] {
         assert_eq!(answer(read_week(label)), Refused(refusal), "{:?}", String::from_utf8_lossy(label));
     }
@@ -416,7 +469,7 @@ fn week_labels_by_value() {
     let mut random = Random::new(65);
     let mut before: Option<(i64, WeekLabel)> = None;
     for _ in 0..300_000 {
-        let days = random.within(FIRST_LABEL_DAY, LAST_DAY);
+        let days = random.within(FIRST_WEEK_LABEL_DAY, LAST_WEEK_LABEL_DAY);
         let expected = label_of(days);
         let text = std::str::from_utf8(&expected).unwrap();
         let label = week_label(days).unwrap();
@@ -431,14 +484,14 @@ fn week_labels_by_value() {
         }
         before = Some((days, label));
     }
-    for days in [FIRST_DAY - 1, LAST_DAY + 1, i64::MIN, i64::MAX] {
+    for days in OUTSIDE {
         assert_eq!(week_label(days), Err(Refusal::OutOfRange));
     }
-    for days in FIRST_DAY..FIRST_LABEL_DAY {
+    for days in WITHOUT_LABEL {
         assert_eq!(week_label(days), Err(Refusal::YearOutOfRange));
     }
     assert_eq!("2023-W53-1".parse::<WeekLabel>(), Err(Refusal::WeekOutOfRange));
-    assert_eq!("9999-W52-6".parse::<WeekLabel>(), Err(Refusal::OutOfRange));
+    assert_eq!("9999-W52-6".parse(), week_label(2932897));
     assert_eq!("2023-w19-3".parse::<WeekLabel>(), Err(Refusal::MalformedLabel));
     assert_eq!(WeekLabel::try_from(&b"\xff"[..]), Err(Refusal::MalformedLabel));
 }

@@ -1,6 +1,7 @@
 //! The calendar: algorithms 3 and 4 of source document 000, section 6, with ordinary divisions, and algorithms 5 and 6 of its
-//! section 8, which multiply and shift. Years and days are counted from 400 years before its epoch, 0000-03-01, so that no
-//! number is negative. Month lengths come from a table, and what is added to them is computed without a branch.
+//! section 8, which multiply and shift. Years are counted from the first of the range, and days from a whole cycle of 400 years
+//! before its 1 March, so that no number is negative. Month lengths come from a table, and what is added to them is computed
+//! without a branch.
 
 use super::{returned, to_place};
 use ovenquill::{Date, DAYS, YEARS};
@@ -9,8 +10,11 @@ const FIRST_YEAR: i64 = *YEARS.start();
 const LAST_YEAR: i64 = *YEARS.end();
 const FIRST_DAY: i64 = *DAYS.start();
 const LAST_DAY: i64 = *DAYS.end();
-/// From the first count of the computational calendar to 1970-01-01.
-const EPOCH: i64 = 719468 + 146097;
+/// The years from the first to year 0: whole cycles, which leave the leap years where they are.
+pub const YEAR_0: u32 = -FIRST_YEAR as u32;
+const _: () = assert!(YEAR_0 % 400 == 0);
+/// From the first count of the computational calendar to 1970-01-01, which is 719468 days after 0000-03-01.
+const EPOCH: i64 = 719468 + 146097 * (YEAR_0 as i64 / 400 + 1);
 /// A Monday before the first day: 1970-01-01 is three days after one.
 const MONDAY_BEFORE: i64 = 7 * (FIRST_DAY / 7 - 1) - 3;
 
@@ -18,12 +22,20 @@ const MONDAY_BEFORE: i64 = 7 * (FIRST_DAY / 7 - 1) - 3;
 pub const BY_DIVISIONS: bool = false;
 pub const BY_SHIFTS: bool = true;
 
-/// A date that is right.
+/// A date that is right, with its year counted from the first.
 #[derive(Clone, Copy)]
 pub struct Parts {
     pub year: u32,
     pub month: u32,
     pub day: u32,
+}
+
+impl Parts {
+    /// The year of the calendar, which may be below zero.
+    #[inline(always)]
+    pub fn calendar_year(self) -> i64 {
+        i64::from(self.year) + FIRST_YEAR
+    }
 }
 
 /// Algorithm 5 by shifts, else algorithm 3. The count is in the range.
@@ -54,15 +66,15 @@ pub fn date_of<const SHIFTS: bool>(days: i64) -> Parts {
 
 /// Algorithm 6 by shifts, else algorithm 4.
 #[inline(always)]
-pub fn days_of<const SHIFTS: bool>(date: Parts) -> i64 {
-    let j = u32::from(date.month <= 2);
+pub const fn days_of<const SHIFTS: bool>(date: Parts) -> i64 {
+    let j = (date.month <= 2) as u32;
     let y = date.year + 400 - j;
     let m = date.month + 12 * j;
     let d = date.day - 1;
     let c = y / 100;
     let days_before_month = if SHIFTS { (979 * m - 2919) >> 5 } else { (153 * m - 457) / 5 };
     let n = 1461 * y / 4 - c + c / 4 + days_before_month + d;
-    i64::from(n) - EPOCH
+    n as i64 - EPOCH
 }
 
 #[inline(always)]
@@ -79,11 +91,11 @@ pub const fn month_length(year: u32, month: u32) -> u32 {
     LENGTHS[month as usize] as u32 + ((month == 2) as u32 & leap(year) as u32)
 }
 
-/// The year, or refusal 1.
+/// The year, counted from the first, or refusal 1.
 #[inline(always)]
 fn checked_year(year: i64) -> Result<u32, i64> {
     if (FIRST_YEAR..=LAST_YEAR).contains(&year) {
-        Ok(year as u32)
+        Ok((year - FIRST_YEAR) as u32)
     } else {
         Err(1)
     }
@@ -124,8 +136,8 @@ pub fn checked_count(days: i64) -> Result<i64, i64> {
 #[inline(always)]
 fn checked_date_of<const SHIFTS: bool>(days: i64) -> Result<Date, i64> {
     checked_count(days).map(|days| {
-        let Parts { year, month, day } = date_of::<SHIFTS>(days);
-        Date::new(year.into(), month.into(), day.into())
+        let date = date_of::<SHIFTS>(days);
+        Date::new(date.calendar_year(), date.month.into(), date.day.into())
     })
 }
 

@@ -34,9 +34,9 @@ pub fn day_and_time(instant: i64) -> (i64, u32) {
 
 /// The instant of a date and a time of day that are right.
 #[inline(always)]
-pub fn joined(date: Parts, hour: u32, minute: u32, second: u32, millisecond: u32) -> i64 {
+pub const fn joined(date: Parts, hour: u32, minute: u32, second: u32, millisecond: u32) -> i64 {
     let time = ((hour * 60 + minute) * 60 + second) * SECOND as u32 + millisecond;
-    days_of::<BY_SHIFTS>(date) * DAY + i64::from(time)
+    days_of::<BY_SHIFTS>(date) * DAY + time as i64
 }
 
 #[inline(never)]
@@ -51,7 +51,7 @@ pub unsafe extern "C" fn split_instant(instant: i64, fields: *mut Fields) -> i64
         let date = date_of::<BY_SHIFTS>(days);
         let seconds = time / SECOND as u32;
         Fields {
-            year: date.year.into(),
+            year: date.calendar_year(),
             month: date.month.into(),
             day: date.day.into(),
             hour: (seconds / 3600).into(),

@@ -1,10 +1,11 @@
 //! Labels: written two digits at a time, from a table or by a division, and read.
 
-use super::calendar::{date_of, month_length, Parts, BY_SHIFTS};
+use super::calendar::{date_of, month_length, Parts, BY_SHIFTS, YEAR_0};
 use super::instants::{checked, day_and_time, joined, DAY, HOUR, MINUTE, SECOND};
 use super::{returned, to_place};
+use core::ops::RangeInclusive;
 use core::slice;
-use ovenquill::{Cue, INSTANT_LABEL_BYTES, POSITIONS};
+use ovenquill::{Cue, INSTANT_LABEL_BYTES, LABEL_YEARS, POSITIONS};
 
 static PAIRS: [[u8; 2]; 100] = {
     let mut pairs = [[0; 2]; 100];
@@ -43,19 +44,29 @@ unsafe fn put_three<const TABLE: bool>(out: *mut u8, n: u32) {
     put_pair::<TABLE>(out.add(1), n % 100);
 }
 
+/// The instants of the years that have labels.
+pub const LABEL_INSTANTS: RangeInclusive<i64> = new_year(*LABEL_YEARS.start())..=new_year(*LABEL_YEARS.end() + 1) - 1;
+
+/// The first instant of a year.
+const fn new_year(year: i64) -> i64 {
+    joined(Parts { year: (year + YEAR_0 as i64) as u32, month: 1, day: 1 }, 0, 0, 0, 0)
+}
+
 #[inline(never)]
 pub unsafe extern "C" fn write_instant<const TABLE: bool>(instant: i64, out: *mut u8, length: usize) -> i64 {
-    if let Err(refusal) = checked(instant) {
-        return -refusal;
+    // An instant that has a label lies in the range, so most are tested once.
+    if !(*LABEL_INSTANTS.start()..=*LABEL_INSTANTS.end()).contains(&instant) {
+        return -checked(instant).err().unwrap_or(1);
     }
     if length < INSTANT_LABEL_BYTES {
         return -7;
     }
     let (days, time) = day_and_time(instant);
     let date = date_of::<BY_SHIFTS>(days);
+    let year = date.year - YEAR_0;
     let rest = time % HOUR as u32;
-    put_pair::<TABLE>(out, date.year / 100);
-    put_pair::<TABLE>(out.add(2), date.year % 100);
+    put_pair::<TABLE>(out, year / 100);
+    put_pair::<TABLE>(out.add(2), year % 100);
     *out.add(4) = b'-';
     put_pair::<TABLE>(out.add(5), date.month);
     *out.add(7) = b'-';
@@ -131,7 +142,7 @@ fn read_by_bytes(label: &[u8; INSTANT_LABEL_BYTES]) -> Result<i64, i64> {
     }
     let digit = |place: usize| u32::from(label[place] - b'0');
     let pair = |place: usize| digit(place) * 10 + digit(place + 1);
-    let date = Parts { year: pair(0) * 100 + pair(2), month: pair(5), day: pair(8) };
+    let date = Parts { year: pair(0) * 100 + pair(2) + YEAR_0, month: pair(5), day: pair(8) };
     instant_of(date, pair(11), pair(14), pair(17), digit(20) * 100 + pair(21))
 }
 
@@ -185,7 +196,7 @@ fn byte(words: [u64; 3], place: usize) -> u32 {
 fn read_by_words(label: &[u8; INSTANT_LABEL_BYTES]) -> Result<i64, i64> {
     let values = values(label)?;
     let pair = |place: usize| byte(pairs(values), place);
-    let date = Parts { year: pair(0) * 100 + pair(2), month: pair(5), day: pair(8) };
+    let date = Parts { year: pair(0) * 100 + pair(2) + YEAR_0, month: pair(5), day: pair(8) };
     instant_of(date, pair(11), pair(14), pair(17), byte(values, 20) * 100 + pair(21))
 }
 

@@ -1,21 +1,32 @@
-//! Week dates and their labels. Years begin in January here and are counted from -399, days from the first of them, a Monday:
-//! no number is negative, a week begins at a multiple of 7, and a leap year is the last of four, so that algorithm 5 of source
-//! document 000, section 8, without its months, gives the year and the week of a Thursday.
+//! Week dates and their labels. Years begin in January here and are counted from the one after the last multiple of 400 before the
+//! range, days from its first, a Monday: no number is negative, a week begins at a multiple of 7, and a leap year is the last of
+//! four, so that algorithms 3 and 5 of source document 000, sections 6 and 8, without their months, give the year and the week of
+//! a Thursday.
 
 use super::calendar::checked_count;
 use super::labels::put_pair;
 use super::to_place;
+use core::ops::RangeInclusive;
 use core::slice;
-use ovenquill::{WeekDate, DAYS, WEEK_LABEL_BYTES, WEEK_YEARS};
+use ovenquill::{WeekDate, DAYS, LABEL_YEARS, WEEK_LABEL_BYTES, WEEK_YEARS, YEARS};
 
-const FIRST_YEAR: i64 = -399;
-/// From the first day of that year to 1970-01-01.
-const EPOCH: i64 = 719162 + 146097;
-/// The year 0, the first and the last day of the range, and the first day whose week year has a label.
+/// The cycles of 400 years from the first year that is counted to year 1.
+const CYCLES: i64 = 1 - *YEARS.start() / 400;
+const FIRST_YEAR: i64 = 1 - 400 * CYCLES;
+/// From the first day of that year to 1970-01-01, which is 719162 days after 0001-01-01.
+const EPOCH: i64 = 719162 + 146097 * CYCLES;
+/// The year 0, and the first and the last day of the range.
 const YEAR_0: u32 = -FIRST_YEAR as u32;
 const FIRST: u32 = (*DAYS.start() + EPOCH) as u32;
 const LAST: u32 = (*DAYS.end() + EPOCH) as u32;
-pub const FIRST_LABEL_DAY: i64 = 7 * first_week(YEAR_0) as i64 - EPOCH;
+
+/// The counts of the days whose week years have a label.
+pub const LABEL_DAYS: RangeInclusive<i64> = monday(*LABEL_YEARS.start())..=monday(*LABEL_YEARS.end() + 1) - 1;
+
+/// The count of the first day of a week year.
+const fn monday(year: i64) -> i64 {
+    7 * first_week((year - FIRST_YEAR) as u32) as i64 - EPOCH
+}
 
 /// The Thursday of a day's week, and the weekday, of a count in the range.
 #[inline(always)]
@@ -26,20 +37,14 @@ fn thursday_and_weekday(days: i64) -> (u32, u32) {
     (7 * weeks + 3, n - 7 * weeks + 1)
 }
 
-/// The year of a Thursday and its week, of n_2 of algorithm 5.
-#[inline(always)]
-fn year_and_week(n_2: u32) -> (u32, u32) {
-    let p_2 = 2939745 * u64::from(n_2);
-    ((p_2 >> 32) as u32, p_2 as u32 / 2939745 / 4 / 7 + 1)
-}
-
 #[inline(never)]
 pub unsafe extern "C" fn week_from_days(days: i64, week: *mut WeekDate) -> i64 {
     let date = checked_count(days).map(|days| {
         let (thursday, weekday) = thursday_and_weekday(days);
         let c = (4 * thursday + 3) / 146097;
         // With the days that three of four centuries leave out put in, every fourth year has a leap day.
-        let (year, week) = year_and_week(4 * (thursday + c - c / 4) + 3);
+        let n_2 = 4 * (thursday + c - c / 4) + 3;
+        let (year, week) = (n_2 / 1461, n_2 % 1461 / 4 / 7 + 1);
         WeekDate::new(i64::from(year) + FIRST_YEAR, week.into(), weekday.into())
     });
     to_place(week, date)
@@ -59,15 +64,10 @@ fn long(year: u32) -> bool {
     first_week(year + 1) - first_week(year) == 53
 }
 
-/// The count of a week date that is one, or refusal 4.
+/// The day of a week date that is one.
 #[inline(always)]
-fn days_of(year: u32, week: u32, weekday: u32) -> Result<i64, i64> {
-    let n = (first_week(year) + week) * 7 + weekday - 8;
-    if (FIRST..=LAST).contains(&n) {
-        Ok(i64::from(n) - EPOCH)
-    } else {
-        Err(4)
-    }
+fn day_of(year: u32, week: u32, weekday: u32) -> u32 {
+    (first_week(year) + week) * 7 + weekday - 8
 }
 
 /// The count of a week date, or a refusal.
@@ -81,7 +81,12 @@ fn checked_days_of(year: i64, week: i64, weekday: i64) -> Result<i64, i64> {
     if !has_week || !(1..=7).contains(&weekday) {
         return Err(16);
     }
-    days_of(year, week as u32, weekday as u32)
+    let day = day_of(year, week as u32, weekday as u32);
+    if (FIRST..=LAST).contains(&day) {
+        Ok(i64::from(day) - EPOCH)
+    } else {
+        Err(4)
+    }
 }
 
 #[inline(never)]
@@ -91,11 +96,9 @@ pub unsafe extern "C" fn days_from_week(year: i64, week: i64, weekday: i64, days
 
 #[inline(never)]
 pub unsafe extern "C" fn write_week<const TABLE: bool>(days: i64, out: *mut u8, length: usize) -> i64 {
-    if let Err(refusal) = checked_count(days) {
-        return -refusal;
-    }
-    if days < FIRST_LABEL_DAY {
-        return -1;
+    // A day that has a label lies in the range, so most are tested once.
+    if !(*LABEL_DAYS.start()..=*LABEL_DAYS.end()).contains(&days) {
+        return -checked_count(days).err().unwrap_or(1);
     }
     if length < WEEK_LABEL_BYTES {
         return -7;
@@ -103,8 +106,9 @@ pub unsafe extern "C" fn write_week<const TABLE: bool>(days: i64, out: *mut u8, 
     let (thursday, weekday) = thursday_and_weekday(days);
     let n_1 = 4 * thursday + 3;
     let c = n_1 / 146097;
-    let (z, week) = year_and_week((n_1 % 146097) | 3);
-    // The last of a hundred years from -399 has the digits of the next century.
+    let p_2 = 2939745 * u64::from((n_1 % 146097) | 3);
+    let (z, week) = ((p_2 >> 32) as u32, p_2 as u32 / 2939745 / 4 / 7 + 1);
+    // The last of a hundred years has the digits of the next century.
     let (century, year) = if z == 99 { (c + 1, 0) } else { (c, z + 1) };
     put_pair::<TABLE>(out, century - (YEAR_0 + 1) / 100);
     put_pair::<TABLE>(out.add(2), year);
@@ -133,7 +137,7 @@ fn read(label: &[u8; WEEK_LABEL_BYTES]) -> Result<i64, i64> {
     if !has_week || !(1..=7).contains(&weekday) {
         return Err(16);
     }
-    days_of(year, week, weekday.into())
+    Ok(i64::from(day_of(year, week, weekday.into())) - EPOCH)
 }
 
 #[inline(never)]

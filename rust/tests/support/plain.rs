@@ -1,21 +1,27 @@
-//! Document 01 and change requests One, Three, Four, Five and Six in plain Rust, written from their text and sharing nothing with
-//! the library but the types of dates, fields, cues, constants and clocks. The calendar is a table of every day, built by stepping
-//! from each day to the next; instants go by `div_euclid` and `rem_euclid`, an index by a search for a bad instant and then one for
-//! a fall, labels by `write!`, the reader of instants byte by byte, timestamps and cue lines by splitting them at their marks and
-//! blanks, the constants by trying every n, and the clock by trying every step that may fit. Change request Seven is in
-//! plain_weeks.rs.
+//! Document 01 and change requests One, Three, Four, Five, Six and Eight in plain Rust, written from their text and sharing
+//! nothing with the library but the types of dates, fields, cues, constants and clocks. The calendar is a table of every day,
+//! built by stepping from each day to the next; instants go by `div_euclid` and `rem_euclid`, an index by a search for a bad
+//! instant and then one for a fall, labels by `write!`, the reader of instants byte by byte, timestamps and cue lines by splitting
+//! them at their marks and blanks, the constants by trying every n, and the clock by trying every step that may fit. Week dates are
+//! in plain_weeks.rs.
 
 use super::answer::Answer::{self, Refused, RefusedAt, Value};
 use ovenquill::{Clock, ClockPosition, Constants, Cue, Date, Fields};
 use std::io::Write;
 use std::sync::OnceLock;
 
-// Document 01's numbers
+// Document 01's numbers, the ends of the calendar as change request Eight has them
 
-pub const FIRST_YEAR: i64 = 0;
-pub const LAST_YEAR: i64 = 9999;
-pub const FIRST_DAY: i64 = -719528;
-pub const LAST_DAY: i64 = 2932896;
+pub const FIRST_YEAR: i64 = -32000;
+pub const LAST_YEAR: i64 = 31999;
+pub const FIRST_DAY: i64 = -12407288;
+pub const LAST_DAY: i64 = 10968231;
+
+/// The years of labels, and their first and last day.
+pub const FIRST_LABEL_YEAR: i64 = 0;
+pub const LAST_LABEL_YEAR: i64 = 9999;
+pub const FIRST_LABEL_DAY: i64 = -719528;
+pub const LAST_LABEL_DAY: i64 = 2932896;
 
 /// The weekdays' numbers, as change request Four has them, and names, each the day after the one before it.
 pub const WEEKDAYS: [(i64, &str); 7] =
@@ -28,9 +34,11 @@ pub const SECOND: i64 = 1000;
 pub const MINUTE: i64 = 60 * SECOND;
 pub const HOUR: i64 = 60 * MINUTE;
 pub const DAY: i64 = 24 * HOUR;
-/// The first instant of the first day and the last of the last.
+/// The first instant of the first day and the last of the last, in the range and in labels.
 pub const FIRST_INSTANT: i64 = FIRST_DAY * DAY;
 pub const LAST_INSTANT: i64 = (LAST_DAY + 1) * DAY - 1;
+pub const FIRST_LABEL_INSTANT: i64 = FIRST_LABEL_DAY * DAY;
+pub const LAST_LABEL_INSTANT: i64 = (LAST_LABEL_DAY + 1) * DAY - 1;
 
 /// The shape of an instant label, with d for a digit.
 const LABEL_SHAPE: &[u8; LABEL_BYTES] = b"dddd-dd-ddTdd:dd:dd.dddZ";
@@ -102,21 +110,27 @@ fn calendar() -> &'static Calendar {
     static CALENDAR: OnceLock<Calendar> = OnceLock::new();
     CALENDAR.get_or_init(|| {
         let in_week = WEEKDAYS.iter().position(|weekday| weekday.1 == FIRST_WEEKDAY).expect("one of the seven") as u8;
-        let mut days = Vec::new();
+        let mut days = Vec::with_capacity((LAST_DAY - FIRST_DAY + 1) as usize);
         let mut months = Vec::new();
         let mut today = Day { year: FIRST_YEAR as i16, month: 1, day: 1, in_week, day_of_year: 1 };
         for count in FIRST_DAY..=LAST_DAY {
             if today.day == 1 {
                 months.push(count);
             }
-            if count == 0 {
-                assert_eq!((today.year, today.month, today.day), (1970, 1, 1));
-                assert_eq!(WEEKDAYS[usize::from(today.in_week)].1, EPOCH_WEEKDAY);
-            }
             days.push(today);
             today = next(today);
         }
-        assert_eq!((i64::from(today.year), today.month, today.day), (LAST_YEAR + 1, 1, 1));
+        // The counts of the definition and of the papers' rows.
+        let at = |count: i64| days[(count - FIRST_DAY) as usize];
+        for (count, date) in [
+            (FIRST_LABEL_DAY, (FIRST_LABEL_YEAR, 1, 1)),
+            (0, (1970, 1, 1)),
+            (LAST_LABEL_DAY, (LAST_LABEL_YEAR, 12, 31)),
+            (LAST_DAY, (LAST_YEAR, 12, 31)),
+        ] {
+            assert_eq!((i64::from(at(count).year), at(count).month, at(count).day), date);
+        }
+        assert_eq!(WEEKDAYS[usize::from(at(0).in_week)].1, EPOCH_WEEKDAY);
         Calendar { days, months }
     })
 }
@@ -258,7 +272,12 @@ pub fn index_days(instants: &[i64], days: &mut [i32]) -> Answer<usize> {
 
 // Labels
 
-/// The label of an instant in the range.
+/// Whether labels have a year, or a week year.
+pub fn label_year(year: i64) -> bool {
+    (FIRST_LABEL_YEAR..=LAST_LABEL_YEAR).contains(&year)
+}
+
+/// The label of an instant that has one.
 pub fn instant_label(instant: i64) -> [u8; LABEL_BYTES] {
     let f = split_instant(instant).value();
     let mut label = [0; LABEL_BYTES];
@@ -295,10 +314,10 @@ pub fn put(label: &[u8], out: &mut [u8]) -> Answer<usize> {
 }
 
 pub fn write_instant(instant: i64, out: &mut [u8]) -> Answer<usize> {
-    if instant_in_range(instant) {
-        put(&instant_label(instant), out)
-    } else {
-        Refused(4)
+    match split_instant(instant) {
+        Value(fields) if label_year(fields.year) => put(&instant_label(instant), out),
+        Value(_) => Refused(1),
+        _ => Refused(4),
     }
 }
 

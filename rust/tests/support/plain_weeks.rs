@@ -1,6 +1,7 @@
-//! Change request Seven in plain Rust, written from its text and sharing nothing with the library but the type of week dates. The
-//! week dates are a table of every day, built by stepping from each day to the next and counting the Thursdays of each year, also
-//! of those that lie outside the range; a week date is looked for among all days of its week year. Labels go byte by byte.
+//! Change request Seven in plain Rust, with the years of request Eight, written from their text and sharing nothing with the
+//! library but the type of week dates. The week dates are a table of every day, built by stepping from each day to the next and
+//! counting the Thursdays of each year, also of those that lie outside the range; a week date is looked for among all days of its
+//! week year. Labels go byte by byte.
 
 use super::answer::Answer::{self, Refused, Value};
 use super::plain::{self, Day, FIRST_DAY, FIRST_YEAR, LAST_DAY, LAST_YEAR, WEEKDAYS};
@@ -10,8 +11,9 @@ use std::sync::OnceLock;
 /// The first day lies in a week of the year before, the last day in one of its own year.
 pub const FIRST_WEEK_YEAR: i64 = FIRST_YEAR - 1;
 pub const LAST_WEEK_YEAR: i64 = LAST_YEAR;
-pub const FIRST_LABEL_YEAR: i64 = 0;
-pub const LAST_LABEL_YEAR: i64 = 9999;
+/// 0000-W01-1 and 9999-W52-7.
+pub const FIRST_WEEK_LABEL_DAY: i64 = -719526;
+pub const LAST_WEEK_LABEL_DAY: i64 = 2932898;
 pub const WEEK_LABEL_BYTES: usize = 10;
 
 /// A day's week date as the table has it.
@@ -103,7 +105,7 @@ pub fn week_label(date: WeekDate) -> [u8; WEEK_LABEL_BYTES] {
 
 pub fn write_week(days: i64, out: &mut [u8]) -> Answer<usize> {
     match week_from_days(days) {
-        Value(date) if (FIRST_LABEL_YEAR..=LAST_LABEL_YEAR).contains(&date.year) => plain::put(&week_label(date), out),
+        Value(date) if plain::label_year(date.year) => plain::put(&week_label(date), out),
         Value(_) => Refused(1),
         _ => Refused(4),
     }
