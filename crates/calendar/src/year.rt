@@ -32,7 +32,7 @@ pub fn days_before(m: u32) -> u32
     requires { ⌜ (1 ≤ m) × (m ≤ 12) ⌝ }
     ensures { λ r. ⌜ (r ≡ getD daysBefore (m - 1) 0) × (r ≤ 334) ⌝ }
 {
-    let at = (m - 1) as usize;
+    let at = m as usize - 1;
     DAYS_BEFORE[at] as u32
 }
 
@@ -41,7 +41,7 @@ pub fn days_from_march(m: u32) -> u32
     requires { ⌜ (3 ≤ m) × (m ≤ 14) ⌝ }
     ensures { λ r. ⌜ r ≡ fromMarch m ⌝ }
 {
-    let at = (m - 3) as usize;
+    let at = m as usize - 3;
     DAYS_FROM_MARCH[at] as u32
 }
 

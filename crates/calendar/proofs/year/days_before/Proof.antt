@@ -6,18 +6,6 @@ use borrow.Author.Needs.{needs}
 use Rattle.calendar.proofs.year.days_before.Statement.{statement}
 use Rattle.calendar.proofs.year.days_before.Tie as tie
 
-sub-at : tie.Need-sub-at
-sub-at c = search needs
-
-cast-at : tie.Need-cast-at
-cast-at c = search needs
-
-mul-result : tie.Need-mul-result
-mul-result c = search needs
-
-array-read-result : tie.Need-array-read-result
-array-read-result c = search needs
-
 cast-result : tie.Need-cast-result
 unfolding daysBefore
 cast-result c = let r = table-entry (c .args .m) (omega arith) (omega arith) in record { fits = omega (arith, r .0, r .1) }
@@ -28,4 +16,10 @@ returns c = let r = table-entry (c .args .m) (omega arith) (omega arith) in (ref
 
 pub days-before-spec : {M : Type 1} → statement M
 days-before-spec =
-    tie.close (tie.spec sub-at cast-at mul-result array-read-result cast-result returns)
+    tie.close
+    (tie.spec
+    (λ c. search needs)
+    (λ c. search needs)
+    (λ c. search needs)
+    cast-result
+    returns)
