@@ -41,7 +41,7 @@ pub fn days_from_march(m: u32) -> u32
     requires { ⌜ (3 ≤ m) × (m ≤ 14) ⌝ }
     ensures { λ r. ⌜ r ≡ fromMarch m ⌝ }
 {
-    let at = m as usize - 3;
+    let at = (m - 3) as usize;
     DAYS_FROM_MARCH[at] as u32
 }
 
