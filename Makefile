@@ -39,7 +39,7 @@ build/tests/%: tests/c/%.c include/ovenquill.h $(LIB)
 	$(CC) $(CFLAGS) -std=c99 -Iinclude $< $(LIB) -o $@
 
 # The expected output of the program `dates`, which has every 13th year and so each of the 400 of a cycle, is what an independent
-# program prints today. Of every year that one prints what the archive answers.
+# program prints today. What the archive answers for every year is what the same program prints for them.
 test-dates: build/tests/all_dates
 	python3 tools/dates.py 13 | cmp - crates/dates/stdout
 	build/tests/all_dates > build/tests/dates

@@ -183,9 +183,9 @@ static inline const char *ovenquill_refusal_text(int64_t answer)
     switch (answer) {
     case OVENQUILL_YEAR_OUT_OF_RANGE:
         return "year outside -" OVENQUILL_RANGE_TEXT_(OVENQUILL_NEGATED_FIRST_YEAR_, OVENQUILL_LAST_YEAR_)
-               ", or week year outside -"
-               OVENQUILL_RANGE_TEXT_(OVENQUILL_NEGATED_FIRST_WEEK_YEAR_, OVENQUILL_LAST_WEEK_YEAR_) ", in a label "
-               OVENQUILL_RANGE_TEXT_(OVENQUILL_FIRST_LABEL_YEAR_, OVENQUILL_LAST_LABEL_YEAR_);
+               ", week year outside -"
+               OVENQUILL_RANGE_TEXT_(OVENQUILL_NEGATED_FIRST_WEEK_YEAR_, OVENQUILL_LAST_WEEK_YEAR_) ", or either outside "
+               OVENQUILL_RANGE_TEXT_(OVENQUILL_FIRST_LABEL_YEAR_, OVENQUILL_LAST_LABEL_YEAR_) " in a label";
     case OVENQUILL_MONTH_OUT_OF_RANGE:
         return "month outside " OVENQUILL_RANGE_TEXT_(OVENQUILL_FIRST_MONTH_, OVENQUILL_LAST_MONTH_);
     case OVENQUILL_DAY_OUT_OF_RANGE:
@@ -282,8 +282,8 @@ typedef struct ovenquill_clock {
 #define OVENQUILL_CLOCK_START {0, 0}
 
 /*
- * The calendar: Gregorian, run backwards without a break; years 0, -4 and -400 are leap, -1 and -100 are not. Most sources date
- * the days before October 1582 by the Julian calendar, in which the same date is another day.
+ * The calendar: Gregorian, run backwards without a break; years 0, -4 and -400 are leap, -1 and -100 are not. Dates before
+ * October 1582 are mostly given by the Julian calendar, which is another one: convert them first.
  */
 
 /*

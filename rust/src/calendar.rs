@@ -6,7 +6,8 @@ use crate::text::pad_date;
 use core::fmt;
 use core::ops::RangeInclusive;
 
-/// The first and the last year. Years are astronomical: year 0 is the one before year 1, and -1 the one before year 0.
+/// The first and the last year. Years are astronomical: year 0 is the one before year 1, and -1 the one before year 0. Dates before
+/// October 1582 are mostly given by the Julian calendar, which is another one: convert them first.
 pub const YEARS: RangeInclusive<i64> = -32000..=31999;
 
 /// The first and the last month of a year.

@@ -27,8 +27,10 @@ macro_rules! week_label_form {
 #[doc = concat!("The bytes of a week label, `", week_label_form!(), "`.")]
 pub const WEEK_LABEL_BYTES: usize = week_label_form!().len();
 
-/// The first and the last year of instant labels, and week year of week labels: those that four digits can tell. A day of another
-/// year has no label; [`split_instant`](crate::split_instant) and [`week_from_days`](crate::week_from_days) give its numbers.
+/// The first and the last year of instant labels, and week year of week labels: those that four digits can tell. An instant of
+/// another year has no label, and a day of another week year has none; [`split_instant`](crate::split_instant) and
+/// [`week_from_days`](crate::week_from_days) give their numbers. It is the week year that counts: 10000-01-01 lies in the week year
+/// 9999 and has the label `9999-W52-6`.
 pub const LABEL_YEARS: RangeInclusive<i64> = 0..=9999;
 
 /// The first and the last position, in milliseconds.

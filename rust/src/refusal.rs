@@ -95,7 +95,7 @@ macro_rules! refusals {
 refusals! {
     /// A year outside [`YEARS`], a week year outside [`WEEK_YEARS`], or either outside [`LABEL_YEARS`] where a label is written.
     YearOutOfRange = 1, (
-        "year outside {}..{}, or week year outside {}..{}, in a label {}..{}",
+        "year outside {}..{}, week year outside {}..{}, or either outside {}..{} in a label",
         YEARS.start(),
         YEARS.end(),
         WEEK_YEARS.start(),

@@ -111,7 +111,7 @@ static void check_refusals(void)
         same("number of a refusal", (int64_t)i + 1, refusals[i], -(int64_t)i - 1);
         same("words of a refusal", refusals[i], has_words(refusals[i], "unknown") || has_words(refusals[i], "not refused"), 0);
     }
-    snprintf(years, sizeof years, "year outside %d..%d, or week year outside %d..%d, in a label %d..%d", PAPER_FIRST_YEAR,
+    snprintf(years, sizeof years, "year outside %d..%d, week year outside %d..%d, or either outside %d..%d in a label", PAPER_FIRST_YEAR,
              PAPER_LAST_YEAR, PAPER_FIRST_WEEK_YEAR, PAPER_LAST_WEEK_YEAR, PAPER_FIRST_LABEL_YEAR, PAPER_LAST_LABEL_YEAR);
     SAME(strcmp(ovenquill_refusal_text(OVENQUILL_YEAR_OUT_OF_RANGE), years), 0);
     SAME(has_words(OVENQUILL_MALFORMED_LABEL, "10"), 1);

@@ -1,5 +1,5 @@
--- Days that the papers name, of a calendar whose steps begin earlier (document 02, request Eight), so that nobody has to believe its first
--- count: 0000-01-01 has document 01's count, and day 0 is 1970-01-01 (source document 002). Then which counts the days of some years have.
+-- Counts that the papers name, so that nobody has to believe the first one: 0000-01-01 has document 01's count, though the steps begin
+-- at an earlier day, and day 0 is 1970-01-01 (source document 002). Then which counts the days of some years have.
 use Prim.Native.Nat.{ℕ, _+_}
 use mathlib.Core.Path.{_≡_, refl, sym, ap, ap₂, _∙_}
 use mathlib.Core.Bool.{true, false, cond}
@@ -12,7 +12,7 @@ use Rattle.numbers.proofs.Integers.{outside-no, outside-as}
 use Rattle.numbers.proofs.Bools.{no-both, same-yes}
 use Rattle.calendar.specs.declared.Date.{Date}
 use Rattle.calendar.specs.Range.{firstCount, lastCount}
-use Rattle.calendar.specs.Gregorian.{leapYear, monthLength, dateOf, ValidDate, Earlier, by-year, by-month, by-day}
+use Rattle.calendar.specs.Gregorian.{monthLength, dateOf, ValidDate, Earlier, by-year, by-month, by-day}
 use Rattle.calendar.specs.Count.{dateOfCount, countOfDate}
 use Rattle.calendar.specs.Answers.{daysAnswer, civilAnswer}
 use Rattle.calendar.specs.Closed.{baseYear, cycle, leapDay, leapℕ, leaps, start, monthDays, before, dayNumber, public}
@@ -35,26 +35,20 @@ pub day-zero-is-1970 : civilAnswer (pos 0) ≡ value (dateOf (pos 1970) (pos 1) 
 unfolding dayNumber start leaps leapDay leapℕ before monthDays
 day-zero-is-1970 = civil-at (pos 0) (since baseYear (pos 1970)) 1 1 tt tt tt tt refl refl
 
--- document 01's first day, and the day after its last, which is that of document 02
-pub day-of-year-zero : civilAnswer (negsuc 719527) ≡ value (dateOf (pos 0) (pos 1) (pos 1))
+-- document 01's first day, and the day after 9999-12-31
+pub new-year-0 : civilAnswer (negsuc 719527) ≡ value (dateOf (pos 0) (pos 1) (pos 1))
 unfolding dayNumber start leaps leapDay leapℕ before monthDays
-day-of-year-zero = civil-at (negsuc 719527) (since baseYear (pos 0)) 1 1 tt tt tt tt refl refl
+new-year-0 = civil-at (negsuc 719527) (since baseYear (pos 0)) 1 1 tt tt tt tt refl refl
 
-pub day-of-year-10000 : civilAnswer (pos 2932897) ≡ value (dateOf (pos 10000) (pos 1) (pos 1))
+pub new-year-10000 : civilAnswer (pos 2932897) ≡ value (dateOf (pos 10000) (pos 1) (pos 1))
 unfolding dayNumber start leaps leapDay leapℕ before monthDays
-day-of-year-10000 = civil-at (pos 2932897) (since baseYear (pos 10000)) 1 1 tt tt tt tt refl refl
+new-year-10000 = civil-at (pos 2932897) (since baseYear (pos 10000)) 1 1 tt tt tt tt refl refl
 
 pub year-zero-has-its-count : daysAnswer (pos 0) (pos 1) (pos 1) ≡ value (negsuc 719527)
-year-zero-has-its-count = days-of-civil (negsuc 719527) (dateOf (pos 0) (pos 1) (pos 1)) day-of-year-zero
+year-zero-has-its-count = days-of-civil (negsuc 719527) (dateOf (pos 0) (pos 1) (pos 1)) new-year-0
 
 pub year-10000-has-its-count : daysAnswer (pos 10000) (pos 1) (pos 1) ≡ value (pos 2932897)
-year-10000-has-its-count = days-of-civil (pos 2932897) (dateOf (pos 10000) (pos 1) (pos 1)) day-of-year-10000
-
--- the leap rule below zero: -4 and -400 are leap, -1 and -100 are not
-pub leap-below-zero :
-    (leapYear (negsuc 3) ≡ true) × ((leapYear (negsuc 399) ≡ true) × ((leapYear (negsuc 0) ≡ false) × (leapYear (negsuc 99) ≡ false)))
-unfolding leapYear
-leap-below-zero = (refl, (refl, (refl, refl)))
+year-10000-has-its-count = days-of-civil (pos 2932897) (dateOf (pos 10000) (pos 1) (pos 1)) new-year-10000
 
 -- ---- the counts of years
 
@@ -69,11 +63,11 @@ first-of-year year d v (by-month p h) = no-both _ h (outside-no (pos 1) (pos 12)
 first-of-year year d v (by-day p q h) = no-both _ h (outside-no (pos 1) (monthLength (d .year) (d .month)) (d .day) (v .day-inside) .0)
 
 -- a day lies in an earlier year exactly if its count is smaller than that of the year's first day
-pub earlier-year :
+pub in-earlier-year :
     (z : ℤ) → outside firstCount lastCount z ≡ false → (year first : ℤ) → daysAnswer year (pos 1) (pos 1) ≡ value first →
     ltZ (dateOfCount z .year) year ≡ ltZ z first
 unfolding daysAnswer
-earlier-year z h year first e =
+in-earlier-year z h year first e =
     let v = date-of-count-is-valid z h in
     let o = earlier-exactly (dateOfCount z) (newYearOf year) v (accepted-valid year (pos 1) (pos 1) countOfDate first (sym e)) in
     let counts = ap₂ ltZ (count-of-date-of-count z h) (sym (accepted-is year (pos 1) (pos 1) countOfDate first (sym e))) in
@@ -85,4 +79,4 @@ pub days-of-years :
     (z : ℤ) → outside firstCount lastCount z ≡ false → (from to first last : ℤ) → daysAnswer from (pos 1) (pos 1) ≡ value first →
     daysAnswer (to +ℤ pos 1) (pos 1) (pos 1) ≡ value (last +ℤ pos 1) → outside from to (dateOfCount z .year) ≡ outside first last z
 days-of-years z h from to first last e f =
-    outside-as (dateOfCount z .year) from to z first last (earlier-year z h from first e) (earlier-year z h (to +ℤ pos 1) (last +ℤ pos 1) f)
+    outside-as (dateOfCount z .year) from to z first last (in-earlier-year z h from first e) (in-earlier-year z h (to +ℤ pos 1) (last +ℤ pos 1) f)

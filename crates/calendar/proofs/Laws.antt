@@ -7,7 +7,7 @@ use native.Mathlib.Numerals.{add-one}
 use native.Mathlib.Omega.{arith}
 use lib.Bits.{bitOr, bitXor}
 use lib.Dec.{ltb}
-use lib.IntN.{ℤ, pos, natAbs, _+ℤ_, +ℤ-assoc}
+use lib.IntN.{ℤ, pos, negsuc, natAbs, _+ℤ_, +ℤ-assoc}
 use lib.ListN.{getD, take}
 use lib.Signed.{ltZ}
 use borrow.Author.Tests.{ltb-true, lt-ltb, eqb-true, eq-eqb, ne-eqb}
@@ -254,6 +254,12 @@ leap-rule y =
 pub year-zero-is-leap : leapYear (pos 0) ≡ true
 unfolding leapYear
 year-zero-is-leap = refl
+
+-- the leap rule below zero: -4 and -400 are leap, -1 and -100 are not
+pub leap-below-zero :
+    (leapYear (negsuc 3) ≡ true) × ((leapYear (negsuc 399) ≡ true) × ((leapYear (negsuc 0) ≡ false) × (leapYear (negsuc 99) ≡ false)))
+unfolding leapYear
+leap-below-zero = (refl, (refl, (refl, refl)))
 
 -- a shifted date is the date of the sum of the count and the days, taken in whole numbers, or 4 exactly if that lies outside the range
 pub add-days-is-date-of-sum : (year month day z p : ℤ) → daysAnswer year month day ≡ value z → addDaysAnswer year month day p ≡ civilAnswer (z +ℤ p)

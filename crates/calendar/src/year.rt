@@ -32,6 +32,7 @@ pub fn days_before(m: u32) -> u32
     requires { ⌜ (1 ≤ m) × (m ≤ 12) ⌝ }
     ensures { λ r. ⌜ (r ≡ getD daysBefore (m - 1) 0) × (r ≤ 334) ⌝ }
 {
+    // wide before the difference: of a narrow one the compiler would mask the place
     let at = m as usize - 1;
     DAYS_BEFORE[at] as u32
 }

@@ -1,6 +1,6 @@
 // The first and the last day of every month of every thirteenth year, from the first of the range to the last, to be held to those of
 // an independent program (tools/dates.py): a line for each month, and for each of the two days the year, month and day of its count,
-// the count, and the weekday. Thirteen and 400 have no common divisor, so every year of a cycle of 400 comes up.
+// the count, and the weekday. Thirteen is prime to 400, so every year of a cycle of 400 comes up.
 
 use calendar::DateAnswer;
 use calendar::range::FIRST_YEAR;

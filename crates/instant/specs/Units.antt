@@ -1,4 +1,4 @@
--- The units of an instant and its range: document 01, "Instants and the two labels".
+-- The units of an instant: document 01, "Instants and the two labels"; and its range: document 02, request Eight.
 use Prim.Native.Nat.{ℕ, _*_, _-_}
 use mathlib.Core.Path.{_≡_, refl}
 use lib.IntN.{ℤ, pos, negsuc, _+ℤ_, _*ℤ_}

@@ -1,4 +1,4 @@
-// The units of an instant and its range: document 01, "Instants and the two labels".
+// The units of an instant: document 01, "Instants and the two labels"; and its range: document 02, request Eight.
 
 use calendar::range::FIRST_COUNT;
 use calendar::range::LAST_COUNT;

@@ -14,7 +14,7 @@ use Rattle.numbers.specs.Range.{outside}
 use Rattle.numbers.proofs.Bools.{no-both}
 use Rattle.numbers.proofs.Between.{natural-within}
 use Rattle.numbers.proofs.Integers.{wider}
-use Rattle.refusal.proofs.Outcomes.{clash, passes, same-value}
+use Rattle.refusal.proofs.Outcomes.{clash, passes, tested-then, same-value}
 use Rattle.calendar.specs.Range.{firstYear, lastYear}
 use Rattle.calendar.specs.Gregorian.{monthLength, dateOf}
 use Rattle.calendar.specs.Answers.{ofDate}
@@ -26,7 +26,8 @@ use Rattle.instant.specs.declared.Fields.{Fields}
 use Rattle.instant.proofs.Ranges.{instants-of-days, day-inside}
 use Rattle.instant.proofs.Laws.{split-join, join-split}
 use Rattle.labels.specs.Digits.{digits, number, numberAt, fits}
-use Rattle.labels.specs.Years.{firstLabelYear, lastLabelYear, firstLabelDay, lastLabelDay, firstLabelInstant, lastLabelInstant}
+use Rattle.labels.specs.Years.{firstLabelYear, lastLabelYear}
+use Rattle.labels.specs.Labelled.{firstLabelDay, lastLabelDay, firstLabelInstant, lastLabelInstant}
 use Rattle.labels.specs.Rfc3339.{labelLength, decimals, dateText, timeText, numbersText, dateShape, timeShape, labelText, fieldsLabel, instantLabel, readFields, readAnswer}
 use Rattle.labels.specs.Capitals.{inCapitals}
 use Rattle.labels.specs.Parts.{HasRoom, NarrowFields}
@@ -113,13 +114,9 @@ pub label-exactly :
     ≡ cond (badInstant instant) (refused 4)
     (cond (outside firstLabelInstant lastLabelInstant instant) (refused 1) (value (labelText (fieldsOf instant))))
 unfolding instantLabel splitAnswer
-label-exactly instant = go (badInstant instant) refl
-  where
-    go : (t : Bool) → badInstant instant ≡ t →
-        andThen (cond t (refused 4) (value (fieldsOf instant))) fieldsLabel
-        ≡ cond t (refused 4) (cond (outside firstLabelInstant lastLabelInstant instant) (refused 1) (value (labelText (fieldsOf instant))))
-    go true h = refl
-    go false h = ap (λ t. cond t (refused 1) (value (labelText (fieldsOf instant)))) (label-years instant h)
+label-exactly instant =
+    tested-then (badInstant instant) 4 (fieldsOf instant) fieldsLabel
+    (λ h. ap (λ t. cond t (refused 1) (value (labelText (fieldsOf instant)))) (label-years instant h))
 
 -- so every instant of document 01's range has a label
 pub instant-labelled : (instant : ℤ) → outside firstLabelInstant lastLabelInstant instant ≡ false → instantLabel instant ≡ value (labelText (fieldsOf instant))
@@ -179,6 +176,13 @@ capitals-fields label h =
 label-year-inside : (label : List ℕ) → fits (dateShape ++ timeShape decimals) label ≡ true → outside firstLabelYear lastLabelYear (pos (numberAt 0 4 label)) ≡ false
 label-year-inside label h = label-year (numberAt 0 4 label) (ap (numberAt 0 4) (date-back (timeShape decimals) label h .0))
 
+-- the fields that a label's numbers are
+abbrev numbersOf : (label : List ℕ) → Fields
+numbersOf label =
+    let t = drop 10 label in
+    fieldsWith (pos (numberAt 0 4 label)) (pos (numberAt 5 2 label)) (pos (numberAt 8 2 label)) (pos (numberAt 1 2 t)) (pos (numberAt 4 2 t))
+    (pos (numberAt 7 2 t)) (pos (numberAt 10 decimals t))
+
 -- reading an accepted label then writing gives the same bytes, with t and z made capital
 pub read-write : (label : List ℕ) (instant : ℤ) → readAnswer label ≡ value instant → instantLabel instant ≡ value (inCapitals label)
 unfolding instantLabel numbersText
@@ -188,7 +192,7 @@ read-write label instant e =
     ap (λ o. andThen o fieldsLabel)
     (join-split (pos (numberAt 0 4 label)) (pos (numberAt 5 2 label)) (pos (numberAt 8 2 label)) (pos (numberAt 1 2 t)) (pos (numberAt 4 2 t))
     (pos (numberAt 7 2 t)) (pos (numberAt 10 decimals t)) instant (a .1))
-    ∙ ap (λ y. cond y (refused 1) (value (labelText (fieldsWith (pos (numberAt 0 4 label)) (pos (numberAt 5 2 label)) (pos (numberAt 8 2 label)) (pos (numberAt 1 2 t)) (pos (numberAt 4 2 t)) (pos (numberAt 7 2 t)) (pos (numberAt 10 decimals t)))))) (label-year-inside label (a .0))
+    ∙ ap (λ y. cond y (refused 1) (value (labelText (numbersOf label)))) (label-year-inside label (a .0))
     ∙ ap value (label-back label (a .0))
 
 -- every instant label has labelLength bytes, and these are 24
@@ -201,7 +205,7 @@ label-bytes = refl
 
 -- ---- the reader's refusals
 
--- and a year of the range
+-- four digits are a year of the range
 year-inside : (label : List ℕ) → fits (dateShape ++ timeShape decimals) label ≡ true → outside firstYear lastYear (pos (numberAt 0 4 label)) ≡ false
 year-inside label h =
     wider firstLabelYear lastLabelYear firstYear lastYear (pos (numberAt 0 4 label)) refl refl (label-year-inside label h)

@@ -9,7 +9,7 @@ use lib.IntN.{ℤ, pos, natAbs, _+ℤ_}
 use lib.ListN.{length, drop}
 use borrow.Author.Tests.{lt-ltb}
 use Rattle.refusal.specs.Outcome.{Outcome, value, refused, refusedAt, andThen}
-use Rattle.refusal.proofs.Outcomes.{clash, passes, same-value}
+use Rattle.refusal.proofs.Outcomes.{clash, passes, tested-then, same-value}
 use Rattle.numbers.specs.Range.{outside, since}
 use Rattle.numbers.proofs.Between.{natural-within}
 use Rattle.numbers.proofs.Integers.{wider, outside-as}
@@ -20,11 +20,12 @@ use Rattle.week.specs.Week.{weekDate, weekDateOf}
 use Rattle.week.specs.Closed.{baseYear, firstDay}
 use Rattle.week.specs.Answers.{firstWeekYear, lastWeekYear, weekAnswer, weekDaysAnswer}
 use Rattle.week.proofs.Weeks.{week-date-in}
-use Rattle.week.proofs.OrderLaws.{earlier-week-year}
+use Rattle.week.proofs.OrderLaws.{in-earlier-week-year}
 use Rattle.week.proofs.Laws.{days-of-week, week-of-days, week-refusal, four-at-the-ends}
 use Rattle.labels.specs.Digits.{digits, numberAt, fits}
 use Rattle.labels.specs.Rfc3339.{dash}
-use Rattle.labels.specs.Years.{firstLabelYear, lastLabelYear, firstWeekLabelDay, lastWeekLabelDay}
+use Rattle.labels.specs.Years.{firstLabelYear, lastLabelYear}
+use Rattle.labels.specs.Labelled.{firstWeekLabelDay, lastWeekLabelDay}
 use Rattle.labels.specs.IsoWeek.{letterW, weekLength, weekText, weekDateLabel, weekLabel, weekShape, readNumbers, readWeekAnswer}
 use Rattle.labels.proofs.Decimal.{label-year}
 use Rattle.labels.proofs.Shapes.{fits-both, digits-fit, digits-front, mark-front, fits-nothing}
@@ -60,17 +61,12 @@ module _ (days : ℤ) where
       weekLabel days
       ≡ cond (outside firstCount lastCount days) (refused 4) (cond (outside firstWeekLabelDay lastWeekLabelDay days) (refused 1) (value textOf))
   unfolding weekLabel weekAnswer
-  week-label-exactly = go (outside firstCount lastCount days) refl
-    where
-      go : (t : Bool) → outside firstCount lastCount days ≡ t →
-          andThen (cond t (refused 4) (value (weekDateOf days))) weekDateLabel
-          ≡ cond t (refused 4) (cond (outside firstWeekLabelDay lastWeekLabelDay days) (refused 1) (value textOf))
-      go true h = refl
-      go false h =
-          ap (λ t. cond t (refused 1) (value textOf))
-          (outside-as (weekDateOf days .year) firstLabelYear lastLabelYear days firstWeekLabelDay lastWeekLabelDay
-          (earlier-week-year days h firstLabelYear firstWeekLabelDay first-label-week)
-          (earlier-week-year days h (lastLabelYear +ℤ pos 1) (lastWeekLabelDay +ℤ pos 1) week-after-labels))
+  week-label-exactly =
+      tested-then (outside firstCount lastCount days) 4 (weekDateOf days) weekDateLabel
+      (λ h. ap (λ t. cond t (refused 1) (value textOf))
+      (outside-as (weekDateOf days .year) firstLabelYear lastLabelYear days firstWeekLabelDay lastWeekLabelDay
+      (in-earlier-week-year days h firstLabelYear firstWeekLabelDay first-label-week)
+      (in-earlier-week-year days h (lastLabelYear +ℤ pos 1) (lastWeekLabelDay +ℤ pos 1) week-after-labels)))
 
 -- a written text has the shape
 text-fits : (year week weekday : ℕ) → fits weekShape (weekText year week weekday) ≡ true

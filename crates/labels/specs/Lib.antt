@@ -4,12 +4,14 @@ pub mod Clock
 pub mod Years
 pub mod Rfc3339
 pub mod IsoWeek
-pub mod Capitals
 pub mod Webvtt
 pub mod Written
 pub mod Timestamps
 pub mod CueLines
 pub mod Cues
+-- What the theorems speak of.
+pub mod Capitals
+pub mod Labelled
 -- What only proofs and private contracts need, but for the type of `timingOf`.
 pub mod Words
 pub mod Filled

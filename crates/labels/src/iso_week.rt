@@ -115,7 +115,7 @@ fn number_at(i: usize, century: u32, year: u32, week: u32) -> u32
     }
 }
 
-// The day count of a week label. 8 for a label of another shape, then the refusals of its week date: 16, then 4.
+// The day count of a week label. 8 for a label of another shape, then 16 as its week date; all others lie in the range.
 pub fn read_week(label: &[u8]) -> NumberAnswer
     ensures { λ r. ⌜ numberOutcome r ≡ readWeekAnswer (now (label .entry)) ⌝ }
 {

@@ -1,10 +1,10 @@
 // The two labels of document 01, "Instants and the two labels": RFC 3339 for instants, WebVTT for positions; WebVTT timestamps and cue
 // lines read back, document 02, request One; and ISO 8601 week labels, request Seven.
 //
-//     rfc3339::write_instant(instant, out)       bytes written       refusals 4, then 7
+//     rfc3339::write_instant(instant, out)       bytes written       refusals 4, then 1, then 7
 //     rfc3339::read_instant(label)               instant             refusals 8, then 2, 3, 5
 //     iso_week::write_week(days, out)            bytes written       refusals 4, then 1, then 7
-//     iso_week::read_week(label)                 day count           refusals 8, then 16, then 4
+//     iso_week::read_week(label)                 day count           refusals 8, then 16
 //     webvtt::write_position(position, out)      bytes written       refusals 6, then 7
 //     webvtt::read_position(text)                position            refusals 13, then 6
 //     webvtt::read_cue(line)                     start and end       refusals 13, then 6, then 13

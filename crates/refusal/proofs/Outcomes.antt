@@ -3,7 +3,7 @@ use Prim.Native.Nat.{ℕ}
 use mathlib.Core.Path.{_≡_, refl}
 use mathlib.Core.Bool.{Bool, true, false, cond}
 use native.Mathlib.Omega.{arith}
-use Rattle.refusal.specs.Outcome.{Outcome, value, refused}
+use Rattle.refusal.specs.Outcome.{Outcome, value, refused, andThen}
 
 -- of an equation between two constructors `cc` proves that 0 is 1, and from that follows anything
 pub clash : {A : Type 0} → _≡_ {A = ℕ} 0 1 → A
@@ -19,6 +19,13 @@ pub refuses :
     refused n ≡ cond t (refused k) o → refused n ≡ cond t (refused k) p
 refuses true k o p f e = cc
 refuses false k o p f e = f e
+
+-- a test, and then what is made of the value behind it
+pub tested-then :
+    {A B : Type 0} (t : Bool) (k : ℕ) (a : A) (next : A → Outcome B) {o : Outcome B} → (t ≡ false → next a ≡ o) →
+    andThen (cond t (refused k) (value a)) next ≡ cond t (refused k) o
+tested-then true k a next f = refl
+tested-then false k a next f = f refl
 
 pub not-refused : {A B : Type 0} (x : A) (p : Outcome B) {n : ℕ} → refused n ≡ value x → refused n ≡ p
 not-refused x p e = clash (cc)

@@ -7,7 +7,7 @@ ghost use mathlib.Core.Path.{_≡_};
 ghost use Rattle.refusal.specs.Numbers.{refusalNumber};
 
 pub enum Refusal {
-    // 1: year outside the range of years, or week year outside its own
+    // 1: year or week year outside its range, or of a label outside those that have one
     YearOutOfRange,
     // 2: month outside 1..12
     MonthOutOfRange,

@@ -103,10 +103,10 @@ accepted d z e =
     (k .0, sym (same-value (k .1)))
 
 -- a day lies in an earlier week year exactly if its count is smaller than that of the year's first day
-pub earlier-week-year :
+pub in-earlier-week-year :
     (z : ℤ) → outside firstCount lastCount z ≡ false → (year first : ℤ) → weekDaysAnswer year (pos 1) (pos 1) ≡ value first →
     ltZ (weekDateOf z .year) year ≡ ltZ z first
-earlier-week-year z h year first e =
+in-earlier-week-year z h year first e =
     let k = accepted (weekDate year (pos 1) (pos 1)) first e in
     let o = earlier-week-exactly z first h (k .0) in
     same-yes (ltZ (weekDateOf z .year) year) (ltZ z first)

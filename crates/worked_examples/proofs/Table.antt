@@ -5,18 +5,18 @@ use mathlib.Core.Path.{_≡_, refl, ap}
 use mathlib.Core.List.{[], _∷_}
 use lib.Dec.{lit≤}
 use native.Mathlib.Omega.{arith}
-use lib.IntN.{pos, negsuc, natAbs}
+use lib.IntN.{ℤ, pos, negsuc, natAbs}
 use Rattle.refusal.specs.Outcome.{value, refused, refusedAt, andThen}
 use Rattle.numbers.specs.Range.{since}
 use Rattle.calendar.specs.Range.{firstCount}
 use Rattle.calendar.specs.Gregorian.{dateOf}
 use Rattle.calendar.specs.Count.{dateOfCount, weekday}
-use Rattle.calendar.specs.Answers.{civilAnswer, weekdayAnswer}
+use Rattle.calendar.specs.Answers.{leapAnswer, civilAnswer, weekdayAnswer}
 use Rattle.calendar.specs.Closed.{baseYear, leapDay, leapℕ, leaps, start, monthDays, before, dayNumber}
-use Rattle.calendar.proofs.Laws.{date-at}
-use Rattle.calendar.proofs.Epoch.{civil-at, day-of-year-zero, day-of-year-10000}
+use Rattle.calendar.proofs.Laws.{date-at, first-count-is-first-date, last-count-is-last-date}
+use Rattle.calendar.proofs.Epoch.{civil-at, new-year-0}
 use Rattle.week.specs.Week.{weekDate}
-use Rattle.week.specs.Answers.{weekAnswer, weekDaysAnswer}
+use Rattle.week.specs.Answers.{firstWeekYear, lastWeekYear, weekAnswer, weekDaysAnswer}
 use Rattle.week.specs.Closed.{firstDay, firstWeek, weeks}
 use Rattle.week.specs.Closed as week
 use Rattle.week.proofs.Weeks.{week-date-in}
@@ -72,9 +72,9 @@ march-2100-row : civilAnswer (pos 47541) ≡ value (dateOf (pos 2100) (pos 3) (p
 unfolding dayNumber start leaps leapDay leapℕ before monthDays
 march-2100-row = civil-at (pos 47541) (since baseYear (pos 2100)) 3 1 tt tt tt tt refl refl
 
-last-row : civilAnswer (pos 2932896) ≡ value (dateOf (pos 9999) (pos 12) (pos 31))
+year-9999-row : civilAnswer (pos 2932896) ≡ value (dateOf (pos 9999) (pos 12) (pos 31))
 unfolding dayNumber start leaps leapDay leapℕ before monthDays
-last-row = civil-at (pos 2932896) (since baseYear (pos 9999)) 12 31 tt tt tt tt refl refl
+year-9999-row = civil-at (pos 2932896) (since baseYear (pos 9999)) 12 31 tt tt tt tt refl refl
 
 -- each n up to the difference is asked
 tenth-row : differenceAnswer (pos 1) (pos 0) (pos 10) (pos 26) (pos 0) (pos 8) (pos 0) (pos 4294967295) ≡ value (at 69)
@@ -94,7 +94,7 @@ unfolding outsideLimits difference differs exactQuotient deviceQuotient leastBel
 month-row = found-early (pos 5) (pos 461) (pos 153) (pos 2141) (pos 197913) (pos 16) (pos 0) (pos 4294967295) refl 735 734 refl (lit≤ tt)
 
 pub record StarredRows : Type 0 where
-  pub first : (civilAnswer (negsuc 719527) ≡ value (dateOf (pos 0) (pos 1) (pos 1))) × (weekdayAnswer (negsuc 719527) ≡ value (pos 6))
+  pub year-0 : (civilAnswer (negsuc 719527) ≡ value (dateOf (pos 0) (pos 1) (pos 1))) × (weekdayAnswer (negsuc 719527) ≡ value (pos 6))
   pub leap-day-0 : civilAnswer (negsuc 719468) ≡ value (dateOf (pos 0) (pos 2) (pos 29))
   pub after-leap-day-0 : civilAnswer (negsuc 719467) ≡ value (dateOf (pos 0) (pos 3) (pos 1))
   pub february-1900 : civilAnswer (negsuc 25508) ≡ value (dateOf (pos 1900) (pos 2) (pos 28))
@@ -103,7 +103,7 @@ pub record StarredRows : Type 0 where
   pub leap-day-2000 : civilAnswer (pos 11016) ≡ value (dateOf (pos 2000) (pos 2) (pos 29))
   pub february-2100 : civilAnswer (pos 47540) ≡ value (dateOf (pos 2100) (pos 2) (pos 28))
   pub march-2100 : civilAnswer (pos 47541) ≡ value (dateOf (pos 2100) (pos 3) (pos 1))
-  pub last : (civilAnswer (pos 2932896) ≡ value (dateOf (pos 9999) (pos 12) (pos 31))) × (weekdayAnswer (pos 2932896) ≡ value (pos 5))
+  pub year-9999 : (civilAnswer (pos 2932896) ≡ value (dateOf (pos 9999) (pos 12) (pos 31))) × (weekdayAnswer (pos 2932896) ≡ value (pos 5))
   pub day-before-epoch : dayAnswer (negsuc 86399999) ≡ value (negsuc 0)
   pub two-days-before-epoch : dayAnswer (negsuc 86400000) ≡ value (negsuc 1)
   -- a=1 b=0 d=10 m=26 c=0 k=8, t=0 and t=1; m=25; and a month step of source document 000
@@ -116,7 +116,7 @@ pub table : StarredRows
 unfolding dayAnswer dayOf weekdayAnswer weekday
 table =
     record {
-      first = (day-of-year-zero, refl);
+      year-0 = (new-year-0, refl);
       leap-day-0 = leap-day-0-row;
       after-leap-day-0 = after-leap-day-0-row;
       february-1900 = february-1900-row;
@@ -125,7 +125,7 @@ table =
       leap-day-2000 = leap-day-2000-row;
       february-2100 = february-2100-row;
       march-2100 = march-2100-row;
-      last = (last-row, refl);
+      year-9999 = (year-9999-row, refl);
       day-before-epoch = refl;
       two-days-before-epoch = refl;
       tenth = tenth-row;
@@ -230,12 +230,12 @@ pub new-year-row : weekAnswer (pos 18628) ≡ value (weekDate (pos 2020) (pos 53
 unfolding weekAnswer firstDay start leaps
 new-year-row = ap value (week-date-in (pos 18628) (since week.baseYear (pos 2020)) tt tt refl)
 
-pub first-day-row : weekAnswer (negsuc 719527) ≡ value (weekDate (negsuc 0) (pos 52) (pos 6))
+pub week-of-year-0-row : weekAnswer (negsuc 719527) ≡ value (weekDate (negsuc 0) (pos 52) (pos 6))
 unfolding weekAnswer firstDay start leaps
-first-day-row = ap value (week-date-in (negsuc 719527) (since week.baseYear (negsuc 0)) tt tt refl)
+week-of-year-0-row = ap value (week-date-in (negsuc 719527) (since week.baseYear (negsuc 0)) tt tt refl)
 
-pub first-week-row : weekDaysAnswer (negsuc 0) (pos 52) (pos 6) ≡ value (negsuc 719527)
-first-week-row = days-of-week (negsuc 719527) (weekDate (negsuc 0) (pos 52) (pos 6)) first-day-row
+pub year-0-of-week-row : weekDaysAnswer (negsuc 0) (pos 52) (pos 6) ≡ value (negsuc 719527)
+year-0-of-week-row = days-of-week (negsuc 719527) (weekDate (negsuc 0) (pos 52) (pos 6)) week-of-year-0-row
 
 pub no-week-row : weekDaysAnswer (negsuc 0) (pos 53) (pos 1) ≡ refused 16
 unfolding weeks firstWeek firstDay start leaps
@@ -250,24 +250,32 @@ week-label-row = ap (λ o. andThen o weekDateLabel) week-row
 pub week-read-row : readWeekAnswer (50 ∷ 48 ∷ 50 ∷ 51 ∷ 45 ∷ 87 ∷ 49 ∷ 57 ∷ 45 ∷ 51 ∷ []) ≡ value (pos 19487)
 week-read-row = write-read-week (pos 19487) _ week-label-row
 
--- ---- document 02, request Eight: the first and the last day, and the days beside them; 9999-W52-6 and the day after 9999-12-31 are
--- 10000-01-01; the week dates at both ends; and instants of years that have no label
+-- ---- document 02, request Eight: the first and the last day, and what stands beside the range; 9999-W52-6 is 10000-01-01, day 2932897;
+-- the week dates at both ends; and instants of years that have no label
 
 pub first-of-range-row :
     (civilAnswer (negsuc 12407287) ≡ value (dateOf (negsuc 31999) (pos 1) (pos 1))) × (weekdayAnswer (negsuc 12407287) ≡ value (pos 6))
-unfolding weekdayAnswer weekday dayNumber start leaps leapDay leapℕ before monthDays
-first-of-range-row = (civil-at (negsuc 12407287) (since baseYear (negsuc 31999)) 1 1 tt tt tt tt refl refl, refl)
+unfolding weekdayAnswer weekday
+first-of-range-row = (first-count-is-first-date, refl)
 
 pub last-of-range-row : (civilAnswer (pos 10968231) ≡ value (dateOf (pos 31999) (pos 12) (pos 31))) × (weekdayAnswer (pos 10968231) ≡ value (pos 5))
-unfolding weekdayAnswer weekday dayNumber start leaps leapDay leapℕ before monthDays
-last-of-range-row = (civil-at (pos 10968231) (since baseYear (pos 31999)) 12 31 tt tt tt tt refl refl, refl)
+unfolding weekdayAnswer weekday
+last-of-range-row = (last-count-is-last-date, refl)
 
 pub beside-range-row : (civilAnswer (negsuc 12407288) ≡ refused 4) × (civilAnswer (pos 10968232) ≡ refused 4)
 unfolding civilAnswer
 beside-range-row = (refl, refl)
 
-pub year-10000-row : civilAnswer (pos 2932897) ≡ value (dateOf (pos 10000) (pos 1) (pos 1))
-year-10000-row = day-of-year-10000
+pub beside-years-row : (leapAnswer (negsuc 32000) ≡ refused 1) × (leapAnswer (pos 32000) ≡ refused 1)
+unfolding leapAnswer
+beside-years-row = (refl, refl)
+
+pub beside-week-years-row : (week weekday : ℤ) → (weekDaysAnswer (negsuc 32001) week weekday ≡ refused 1) × (weekDaysAnswer (pos 32000) week weekday ≡ refused 1)
+unfolding weekDaysAnswer
+beside-week-years-row week weekday = (refl, refl)
+
+pub week-years-row : (firstWeekYear ≡ negsuc 32000) × (lastWeekYear ≡ pos 31999)
+week-years-row = (refl, refl)
 
 pub week-of-10000-row : weekDaysAnswer (pos 9999) (pos 52) (pos 6) ≡ value (pos 2932897)
 unfolding firstDay start leaps

@@ -1,8 +1,8 @@
 // Document 01's rows of the two labels, small letters as document 02, request Three, has them, and instants of years that have no label,
 // as request Eight does.
 
-use super::show::number;
-use super::show::number_answer;
+use super::show::about;
+use super::show::read_row;
 use super::show::text;
 use super::show::written_answer;
 use labels::rfc3339::LENGTH;
@@ -43,32 +43,24 @@ fn written(instant: i64) {
 }
 
 fn short(instant: i64) {
-    let mut out = [b'?'; LENGTH - 1];
+    let mut out = [b'?'; 23];
     written_to(instant, b" in 23 bytes: label ", &mut out);
 }
 
 fn written_to(instant: i64, says: &[u8], out: &mut [u8]) {
-    text(b"instant ");
-    number(instant);
-    text(says);
+    about(b"instant ", instant, says);
     let answer = labels::rfc3339::write_instant(instant, out);
     written_answer(answer, out);
     text(b"\n");
 }
 
 fn read(label: &[u8]) {
-    text(b"label ");
-    text(label);
-    text(b": instant ");
-    number_answer(labels::rfc3339::read_instant(label));
-    text(b"\n");
+    read_row(label, b": instant ", labels::rfc3339::read_instant(label));
 }
 
 // The bytes that a writer leaves alone stay question marks.
 fn position(position: i64) {
-    text(b"position ");
-    number(position);
-    text(b": ");
+    about(b"position ", position, b": ");
     let mut out = [b'?'; 16];
     let answer = labels::webvtt::write_position(position, &mut out);
     written_answer(answer, &out);
@@ -76,9 +68,7 @@ fn position(position: i64) {
 }
 
 fn short_position(position: i64) {
-    text(b"position ");
-    number(position);
-    text(b" in 13 bytes: ");
+    about(b"position ", position, b" in 13 bytes: ");
     let mut out = [b'?'; 13];
     let answer = labels::webvtt::write_position(position, &mut out);
     written_answer(answer, &out);

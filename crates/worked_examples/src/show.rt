@@ -76,6 +76,22 @@ pub fn date_answer(answer: DateAnswer) {
     }
 }
 
+// What a row is about: a kind of number, the number and words.
+pub fn about(kind: &[u8], n: i64, words: &[u8]) {
+    text(kind);
+    number(n);
+    text(words);
+}
+
+// The row of a label that was read.
+pub fn read_row(label: &[u8], words: &[u8], answer: NumberAnswer) {
+    text(b"label ");
+    text(label);
+    text(words);
+    number_answer(answer);
+    text(b"\n");
+}
+
 // What a writer answered, and what its buffer holds then.
 pub fn written_answer(answer: WriteAnswer, buffer: &[u8]) {
     match answer {

@@ -1,8 +1,9 @@
 // Document 02, request Seven: week dates from counts and back, and their labels; both ends of the range that request Eight gives the
 // calendar, and of the week years that have labels; and what is refused.
 
-use super::show::number;
+use super::show::about;
 use super::show::number_answer;
+use super::show::read_row;
 use super::show::refused;
 use super::show::text;
 use super::show::three_numbers;
@@ -34,9 +35,7 @@ fn dates() {
 }
 
 fn date(days: i64) {
-    text(b"day ");
-    number(days);
-    text(b": week date ");
+    about(b"day ", days, b": week date ");
     match week::week_from_days(days) {
         WeekAnswer::Value(w) => three_numbers(w.year, w.week, w.weekday),
         WeekAnswer::Refused(r) => refused(r),
@@ -117,18 +116,12 @@ fn short(days: i64) {
 }
 
 fn written_to(days: i64, says: &[u8], out: &mut [u8]) {
-    text(b"day ");
-    number(days);
-    text(says);
+    about(b"day ", days, says);
     let answer = labels::iso_week::write_week(days, out);
     written_answer(answer, out);
     text(b"\n");
 }
 
 fn read(label: &[u8]) {
-    text(b"label ");
-    text(label);
-    text(b": day ");
-    number_answer(labels::iso_week::read_week(label));
-    text(b"\n");
+    read_row(label, b": day ", labels::iso_week::read_week(label));
 }
