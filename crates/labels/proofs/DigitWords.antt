@@ -30,9 +30,6 @@ module _ (n : ℕ) (h : n < 10000) where
   both-below : PairsBelow two-pairs
   both-below = (omega arith, (omega arith, tt))
 
-  both-placed : n % 100 * 65536 + n / 100 ≡ placed two-pairs
-  both-placed = omega arith
-
   pub both-text : text two-pairs ≡ digits n 4
   both-text =
       let a : n / 100 / 10 % 10 ≡ n / 10 / 10 / 10 % 10 = rw (place-1000 n) (omega arith) in
@@ -41,11 +38,19 @@ module _ (n : ℕ) (h : n < 10000) where
       let e : n % 100 % 10 ≡ n % 10 = omega arith in
       cc
 
-  pub four-small : 2559 * bitAnd ((n % 100 * 65536 + n / 100) * 103 / 1024) 983055 ≤ 256 * (n % 100 * 65536 + n / 100)
-  four-small = tens-small two-pairs both-below both-placed
+  -- with the hundreds as the code has them
+  module _ {q : ℕ} (e : q ≡ n / 100) where
+    abbrev pairs : ℕ
+    pairs = (n - 100 * q) * 65536 + q
 
-  pub four-digits : 256 * (n % 100 * 65536 + n / 100) - 2559 * bitAnd ((n % 100 * 65536 + n / 100) * 103 / 1024) 983055 + 808464432 ≡ word (digits n 4)
-  four-digits = digits-of two-pairs both-below both-placed (omega arith) ∙ ap word both-text
+    both-placed : pairs ≡ placed two-pairs
+    both-placed = omega arith
+
+    pub four-small : 2559 * bitAnd (pairs * 103 / 1024) 983055 ≤ 256 * pairs
+    four-small = tens-small two-pairs both-below both-placed
+
+    pub four-digits : 256 * pairs - 2559 * bitAnd (pairs * 103 / 1024) 983055 + 808464432 ≡ word (digits n 4)
+    four-digits = digits-of two-pairs both-below both-placed (omega arith) ∙ ap word both-text
 
   pub four-stored : {r : ℕ} → r ≡ word (digits n 4) → bytesOf 4 r ≡ digits n 4
   four-stored e = all-bytes (digits n 4) e (omega arith, (omega arith, (omega arith, (omega arith, tt)))) refl

@@ -1,7 +1,7 @@
 // Decimal digits, written and read some at a time as the bytes of one number, the first byte the lowest.
 
 ghost use mathlib.Core.Path.{_≡_};
-ghost use Prim.Native.Nat.{_+_, _^_, _≤_, _<_};
+ghost use Prim.Native.Nat.{_+_, _^_, _/_, _≤_, _<_};
 ghost use mathlib.Core.List.{_∷_, _++_};
 ghost use lib.ListN.{length};
 ghost use Rattle.labels.specs.Digits.{digits};
@@ -17,13 +17,25 @@ pub const COLON: u8 = b':';
 
 pub const POINT: u8 = b'.';
 
+// A hundredth of 2^19, rounded up: such products are divided by a shift.
+const HUNDREDTH: u32 = (1 << 19) / 100 + 1;
+
+// The hundreds of a number of four digits. Of a quotient by 100 the compiler, which knows that much, makes a longer form of 16 bits.
+fn hundreds(n: u32) -> u32
+    requires { ⌜ n < 10000 ⌝ }
+    ensures { λ r. ⌜ r ≡ n / 100 ⌝ }
+{
+    (n * HUNDREDTH) >> 19
+}
+
 // Four digits of a number. Of numbers below 100 that stand apart in one number, 103 / 1024 are the tens of each, and 256 times the
 // numbers less 2559 times the tens put each tens digit into the byte below its ones.
 pub fn four(n: u32) -> u64
     requires { ⌜ n < 10000 ⌝ }
     ensures { λ r. ⌜ r ≡ word (digits n 4) ⌝ }
 {
-    let pairs = n % 100 * 0x1_0000 + n / 100;
+    let high = hundreds(n);
+    let pairs = (n - 100 * high) * 0x1_0000 + high;
     let tens = pairs * 103 / 1024 & 0xf_000f;
     (256 * pairs - 2559 * tens + 0x3030_3030) as u64
 }

@@ -1,10 +1,9 @@
 // Document 01's rows of the two labels, small letters as document 02, request Three, has them, and instants of years that have no label,
 // as request Eight does.
 
-use super::show::about;
 use super::show::read_row;
-use super::show::text;
-use super::show::written_answer;
+use super::writing;
+use super::writing::Writer;
 use labels::rfc3339::LENGTH;
 
 pub fn run() {
@@ -38,39 +37,21 @@ pub fn run() {
 }
 
 fn written(instant: i64) {
-    let mut out = [b'?'; LENGTH];
-    written_to(instant, b": label ", &mut out);
+    writing::row(Writer::Instant, b"instant ", instant, b": label ", &mut [b'?'; LENGTH]);
 }
 
 fn short(instant: i64) {
-    let mut out = [b'?'; 23];
-    written_to(instant, b" in 23 bytes: label ", &mut out);
-}
-
-fn written_to(instant: i64, says: &[u8], out: &mut [u8]) {
-    about(b"instant ", instant, says);
-    let answer = labels::rfc3339::write_instant(instant, out);
-    written_answer(answer, out);
-    text(b"\n");
+    writing::row(Writer::Instant, b"instant ", instant, b" in 23 bytes: label ", &mut [b'?'; 23]);
 }
 
 fn read(label: &[u8]) {
     read_row(label, b": instant ", labels::rfc3339::read_instant(label));
 }
 
-// The bytes that a writer leaves alone stay question marks.
 fn position(position: i64) {
-    about(b"position ", position, b": ");
-    let mut out = [b'?'; 16];
-    let answer = labels::webvtt::write_position(position, &mut out);
-    written_answer(answer, &out);
-    text(b"\n");
+    writing::row(Writer::Position, b"position ", position, b": ", &mut [b'?'; 16]);
 }
 
 fn short_position(position: i64) {
-    about(b"position ", position, b" in 13 bytes: ");
-    let mut out = [b'?'; 13];
-    let answer = labels::webvtt::write_position(position, &mut out);
-    written_answer(answer, &out);
-    text(b"\n");
+    writing::row(Writer::Position, b"position ", position, b" in 13 bytes: ", &mut [b'?'; 13]);
 }

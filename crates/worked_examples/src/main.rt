@@ -9,6 +9,7 @@ mod label_rows;
 mod show;
 mod timing_rows;
 mod week_rows;
+mod writing;
 
 fn main() {
     calendar_rows::run();

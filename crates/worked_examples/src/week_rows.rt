@@ -7,7 +7,8 @@ use super::show::read_row;
 use super::show::refused;
 use super::show::text;
 use super::show::three_numbers;
-use super::show::written_answer;
+use super::writing;
+use super::writing::Writer;
 use labels::iso_week::LENGTH;
 use week::WeekAnswer;
 
@@ -106,20 +107,11 @@ fn labels() {
 }
 
 fn written(days: i64) {
-    let mut out = [b'?'; LENGTH];
-    written_to(days, b": label ", &mut out);
+    writing::row(Writer::Week, b"day ", days, b": label ", &mut [b'?'; LENGTH]);
 }
 
 fn short(days: i64) {
-    let mut out = [b'?'; 9];
-    written_to(days, b" in 9 bytes: label ", &mut out);
-}
-
-fn written_to(days: i64, says: &[u8], out: &mut [u8]) {
-    about(b"day ", days, says);
-    let answer = labels::iso_week::write_week(days, out);
-    written_answer(answer, out);
-    text(b"\n");
+    writing::row(Writer::Week, b"day ", days, b" in 9 bytes: label ", &mut [b'?'; 9]);
 }
 
 fn read(label: &[u8]) {
