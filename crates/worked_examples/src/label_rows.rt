@@ -37,11 +37,23 @@ pub fn run() {
 }
 
 fn written(instant: i64) {
-    writing::row(Writer::Instant, b"instant ", instant, b": label ", &mut [b'?'; LENGTH]);
+    writing::row(
+        Writer::Instant,
+        b"instant ",
+        instant,
+        b": label ",
+        &mut [b'?'; LENGTH],
+    );
 }
 
 fn short(instant: i64) {
-    writing::row(Writer::Instant, b"instant ", instant, b" in 23 bytes: label ", &mut [b'?'; 23]);
+    writing::row(
+        Writer::Instant,
+        b"instant ",
+        instant,
+        b" in 23 bytes: label ",
+        &mut [b'?'; 23],
+    );
 }
 
 fn read(label: &[u8]) {
@@ -49,9 +61,21 @@ fn read(label: &[u8]) {
 }
 
 fn position(position: i64) {
-    writing::row(Writer::Position, b"position ", position, b": ", &mut [b'?'; 16]);
+    writing::row(
+        Writer::Position,
+        b"position ",
+        position,
+        b": ",
+        &mut [b'?'; 16],
+    );
 }
 
 fn short_position(position: i64) {
-    writing::row(Writer::Position, b"position ", position, b" in 13 bytes: ", &mut [b'?'; 13]);
+    writing::row(
+        Writer::Position,
+        b"position ",
+        position,
+        b" in 13 bytes: ",
+        &mut [b'?'; 13],
+    );
 }

@@ -107,11 +107,23 @@ fn labels() {
 }
 
 fn written(days: i64) {
-    writing::row(Writer::Week, b"day ", days, b": label ", &mut [b'?'; LENGTH]);
+    writing::row(
+        Writer::Week,
+        b"day ",
+        days,
+        b": label ",
+        &mut [b'?'; LENGTH],
+    );
 }
 
 fn short(days: i64) {
-    writing::row(Writer::Week, b"day ", days, b" in 9 bytes: label ", &mut [b'?'; 9]);
+    writing::row(
+        Writer::Week,
+        b"day ",
+        days,
+        b" in 9 bytes: label ",
+        &mut [b'?'; 9],
+    );
 }
 
 fn read(label: &[u8]) {
