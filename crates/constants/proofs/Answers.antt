@@ -1,20 +1,22 @@
 -- The calls' answers, from what the test of the limits and the search tell.
 use Prim.Native.Nat.{ℕ, _≤_, _<_}
-use mathlib.Core.Path.{_≡_, sym, ap, _∙_}
-use mathlib.Core.Bool.{Bool, true, false, _||_}
+use mathlib.Core.Path.{_≡_, refl, sym, ap, _∙_}
+use mathlib.Core.Bool.{Bool, true, false, cond, _||_}
 use native.Mathlib.Decide.{decLt}
 use native.Mathlib.Omega.{arith}
 use borrow.Author.Tests.{lt-ltb, le-ltb}
 use lib.IntN.{ℤ, pos, natAbs}
-use Rattle.refusal.specs.Outcome.{value, refused, refusedAt}
+use Rattle.refusal.specs.Outcome.{Outcome, value, refused, refusedAt}
+use Rattle.numbers.proofs.Bools.{or-no}
+use Rattle.numbers.proofs.Between.{natural-within}
 use Rattle.constants.specs.declared.limits.Constants.{Constants}
 use Rattle.constants.specs.Difference.{apart, differs}
-use Rattle.constants.specs.Least.{at, none, leastBelow, NoneBelow}
+use Rattle.constants.specs.Least.{Found, at, none, leastBelow, NoneBelow}
 use Rattle.constants.specs.Limits.{lastEnd, lastBound, outsideLimits, endOutside, boundOutside}
-use Rattle.constants.specs.Answers.{difference, differenceAnswer, claimed, boundAnswer}
+use Rattle.constants.specs.Answers.{Acceptance, accepted, difference, differenceAnswer, claimed, boundAnswer}
 use Rattle.constants.specs.Allowed.{Passed, exact, device, DifferenceAt}
 use Rattle.constants.specs.Residues.{IsLeast}
-use Rattle.constants.proofs.Least.{finds-right}
+use Rattle.constants.proofs.Least.{finds-at, finds-right}
 
 -- numbers outside their limits
 module _ (a b d m c k t end : ℤ) where
@@ -74,3 +76,25 @@ module _ {a b d m c k t bound : ℤ} {q : Constants} {n : ℕ} (p : Passed a b d
   claim-here le {here} e =
       let i : here ≡ test p (natAbs bound) = e ∙ test-is p n ∙ ap (test p) (p .end-is) in
       rw (p .inside, least-none p h le, ← i)
+
+-- the four answers to a claim, and what is known of the least n
+module _ (a b d m c k t bound : ℤ) (P : Outcome Acceptance → Type 0) where
+  pub claim-cases :
+      P (refused 9) → ((n : ℕ) → n < natAbs bound → natAbs bound ≤ lastBound → P (refusedAt 10 n)) → P (value accepted) → P (refused 11) →
+      P (boundAnswer a b d m c k t bound)
+  unfolding boundAnswer
+  claim-cases nine ten good eleven =
+      go (outsideLimits a b d m c k t || boundOutside bound) refl (leastBelow D (natAbs bound)) refl (D (natAbs bound))
+    where
+      D : ℕ → Bool
+      D = difference a b d m c k t
+
+      go :
+          (out : Bool) → (outsideLimits a b d m c k t || boundOutside bound) ≡ out → (found : Found) → leastBelow D (natAbs bound) ≡ found → (here : Bool) →
+          P (cond out (refused 9) (claimed found here))
+      go true e found f here = nine
+      go false e (at n) f here =
+          ten n (finds-at D (natAbs bound) n .0 f .below)
+          (natural-within 0 (pos lastBound) bound (or-no (outsideLimits a b d m c k t) (boundOutside bound) e .1) .high)
+      go false e none f true = good
+      go false e none f false = eleven

@@ -14,12 +14,14 @@ use lib.Seq.{drop-cons, drop-drop}
 use Rattle.refusal.specs.Outcome.{Outcome, refused}
 use Rattle.numbers.proofs.Bools.{no-both, or-no, and-left, and-right}
 use Rattle.labels.specs.Clock.{colon, clockText}
-use Rattle.labels.specs.Digits.{digits, isDigit, letterT, letterZ, hasSmall, small, isMark, fitsOne, fits}
-use Rattle.labels.specs.Words.{partOf, simple}
+use Rattle.text.specs.Decimal.{digits, isDigit}
+use Rattle.labels.specs.Digits.{letterT, letterZ, hasSmall, small, isMark, fitsOne, fits}
+use Rattle.text.specs.Words.{partOf}
+use Rattle.labels.specs.Words.{simple}
 use Rattle.labels.specs.Rfc3339.{decimals, dateShape, timeShape, readFields, readAnswer}
 use Rattle.labels.specs.Capitals.{capital, inCapitals, fitsExactly, capitalsAnswer, isSmallForm}
 use Rattle.labels.specs.Timings.{letter-is}
-use Rattle.labels.proofs.Decimal.{digit-range}
+use Rattle.text.proofs.Decimal.{digit-range}
 use Rattle.labels.proofs.OneByte.{one-byte}
 use Rattle.labels.proofs.Gaps.{simple-first, simple-rest}
 use Rattle.labels.proofs.Shapes.{fits-length, fits-append, fits-from}

@@ -6,8 +6,8 @@ use mathlib.Core.List.{List, [], _∷_, _++_}
 use native.Mathlib.Omega.{arith}
 use lib.Bits.{bitAnd, and-block, and-mask, and-zero-r}
 use lib.Dec.{lit<}
-use Rattle.labels.specs.Digits.{digits}
-use Rattle.labels.specs.Words.{word}
+use Rattle.text.specs.Decimal.{digits}
+use Rattle.text.specs.Words.{word}
 
 pub data Cell : Type 0 where
   pair : ℕ → Cell

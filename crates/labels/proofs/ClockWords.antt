@@ -10,11 +10,14 @@ use lib.Dec.{ltb}
 use lib.ListN.{getD, take, drop}
 use Rattle.numbers.proofs.Bools.{and-left, and-right}
 use Rattle.labels.specs.Clock.{colon, clockText}
-use Rattle.labels.specs.Digits.{digits, numberAt, fits}
-use Rattle.labels.specs.Words.{word, bytesOf, pairOf, numberOf, Thousandths, above}
+use Rattle.text.specs.Decimal.{digits}
+use Rattle.labels.specs.Digits.{numberAt, fits}
+use Rattle.text.specs.Words.{word, bytesOf}
+use Rattle.labels.specs.Words.{pairOf, numberOf, Thousandths, above}
 use Rattle.labels.specs.Timestamps.{isClock, isTimestamp, positionOf}
 use Rattle.labels.specs.Stamps.{wrong, stampOf}
-use Rattle.labels.proofs.Words.{AllLe, word-le, bytes-le, word-bytes}
+use Rattle.text.specs.Words.{AllLe}
+use Rattle.text.proofs.Words.{word-le, bytes-le, word-bytes}
 use Rattle.labels.proofs.Gaps.{gaps, AllNear, all-near, gaps-are, near-all-fit}
 use Rattle.labels.proofs.ReadValues.{pair-at}
 use Rattle.labels.proofs.Rooms.{highest, Held, raised, or-none, low-text, text-clear, gap-word, sum-below, roomy, room-clear, fits-low}

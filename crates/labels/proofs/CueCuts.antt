@@ -11,14 +11,14 @@ use lib.Seq.{take-all}
 use Rattle.refusal.specs.Outcome.{Outcome, refused}
 use Rattle.numbers.proofs.Bools.{no-both, and-left, and-right}
 use Rattle.labels.specs.Digits.{fits}
-use Rattle.labels.specs.Words.{partOf}
+use Rattle.text.specs.Words.{partOf}
 use Rattle.labels.specs.Timestamps.{isTimestamp}
 use Rattle.labels.specs.CueLines.{isBlank, arrow}
 use Rattle.labels.specs.Timings.{run, firstEnd, arrowAt, secondAt, hasArrow, firstOf, secondOf, EndsFirst, some-blanks, marks-fit, is-cue}
 use Rattle.labels.specs.Cues.{cueLineAnswer}
 use Rattle.labels.specs.Stamps.{stampOf, cueOfStamps}
 use Rattle.labels.specs.declared.webvtt.Cue.{Cue}
-use Rattle.labels.proofs.Words.{part-three}
+use Rattle.text.proofs.Words.{part-three}
 use Rattle.labels.proofs.Shapes.{uneven}
 use Rattle.labels.proofs.StampNumbers.{no-stamp}
 use Rattle.labels.proofs.StampRead.{stamp-length}

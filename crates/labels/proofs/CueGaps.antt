@@ -11,10 +11,10 @@ use mir.Syntax.{w8}
 use mir.Val.{Fits}
 use Rattle.numbers.proofs.Bools.{and-left, and-right}
 use Rattle.labels.specs.Digits.{fits}
-use Rattle.labels.specs.Words.{word, bytesOf, partOf}
+use Rattle.text.specs.Words.{word, bytesOf, partOf}
 use Rattle.labels.specs.CueLines.{arrow}
 use Rattle.labels.specs.Timings.{usualGap}
-use Rattle.labels.proofs.Words.{bytes, all-bytes, part-length, part-le, part-three, part-four, part-five}
+use Rattle.text.proofs.Words.{bytes, all-bytes, part-length, part-le, part-three, part-four, part-five}
 
 module _ (line : List ℕ) (at : ℕ) (h : at + 5 ≤ length line) where
   abbrev x : ℕ

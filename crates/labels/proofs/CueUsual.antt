@@ -8,7 +8,7 @@ use lib.Bits.{bitOr}
 use lib.ListN.{length, drop, length-drop, take-append-drop}
 use lib.Seq.{take-all, drop-drop}
 use Rattle.labels.specs.Digits.{fits}
-use Rattle.labels.specs.Words.{partOf}
+use Rattle.text.specs.Words.{partOf}
 use Rattle.labels.specs.Timestamps.{isTimestamp}
 use Rattle.labels.specs.CueLines.{CueLine}
 use Rattle.labels.specs.Timings.{usualGap, marks-fit}

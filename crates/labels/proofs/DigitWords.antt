@@ -5,9 +5,9 @@ use mathlib.Core.List.{List, [], _∷_, _++_}
 use native.Mathlib.Omega.{arith}
 use native.Mathlib.Nat.{div-div-eq-div-mul}
 use lib.Bits.{bitAnd}
-use Rattle.labels.specs.Digits.{digits}
-use Rattle.labels.specs.Words.{word, bytesOf}
-use Rattle.labels.proofs.Words.{all-bytes}
+use Rattle.text.specs.Decimal.{digits}
+use Rattle.text.specs.Words.{word, bytesOf}
+use Rattle.text.proofs.Words.{all-bytes}
 use Rattle.labels.proofs.Cells.{Cell, pair, mark, PairsBelow, placed, zeroed, text, tens-small, digits-of}
 
 -- a digit after the ones behind it are cut off, and before

@@ -15,11 +15,11 @@ use Rattle.refusal.specs.Outcome.{value}
 use Rattle.numbers.proofs.Bools.{and-left, and-right}
 use Rattle.numbers.proofs.Between.{natural-within}
 use Rattle.labels.specs.Clock.{colon}
-use Rattle.labels.specs.Digits.{digits, number}
+use Rattle.text.specs.Decimal.{digits, number}
 use Rattle.labels.specs.Webvtt.{lastPosition, perHour, hourDigits, clockOf, positionText, positionLabel}
 use Rattle.labels.specs.Timestamps.{lastNine, inFront, hoursText, areHours, isTimestamp, clockValue, hoursValue, positionOf}
 use Rattle.labels.specs.Timestamps.{hasFullHours, withoutZeros, positionAnswer}
-use Rattle.labels.proofs.Decimal.{length-digits}
+use Rattle.text.proofs.Decimal.{length-digits}
 use Rattle.labels.proofs.DigitWords.{place-100, place-1000}
 use Rattle.labels.proofs.TimestampParts.{hours-text, hours-digits, hours-below}
 use Rattle.labels.proofs.Positions.{by-hours, two-to-five, length-position}

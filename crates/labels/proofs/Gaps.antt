@@ -10,8 +10,9 @@ use lib.Dec.{eqb, leb}
 use lib.ListN.{length}
 use Rattle.numbers.proofs.Bools.{and-left, and-right}
 use Rattle.labels.specs.Digits.{hasSmall, fitsOne, fits}
-use Rattle.labels.specs.Words.{word, simple, above}
-use Rattle.labels.proofs.Words.{AllLe}
+use Rattle.text.specs.Words.{word}
+use Rattle.labels.specs.Words.{simple, above}
+use Rattle.text.specs.Words.{AllLe}
 use Rattle.labels.proofs.OneByte.{value-near, gap-is, near-fits}
 
 abbrev pub gaps : (shape text : List ℕ) → List ℕ

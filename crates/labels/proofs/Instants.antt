@@ -1,6 +1,7 @@
 -- The fields of an instant but the year have room in its label, and what the code writes of them is the label.
 use Prim.Native.Nat.{ℕ, _+_, _-_, _≤_, _<_, _^_}
 use mathlib.Core.Path.{_≡_, refl, sym, ap, _∙_}
+use mathlib.Core.Bool.{false}
 use mathlib.Core.List.{List, [], _∷_, _++_}
 use native.Mathlib.Omega.{arith}
 use lib.Dec.{T, lit<}
@@ -23,14 +24,21 @@ use Rattle.instant.specs.declared.Fields.{Fields}
 use Rattle.instant.proofs.Times as times
 use Rattle.instant.proofs.Joined.{join-accepted}
 use Rattle.instant.proofs.Laws.{split-join}
-use Rattle.labels.specs.Digits.{digits, letterT, letterZ}
+use Rattle.text.specs.Decimal.{digits, number}
+use Rattle.labels.specs.Digits.{letterT, letterZ}
 use Rattle.labels.specs.Clock.{colon, clockText}
 use Rattle.labels.specs.Rfc3339.{dash, labelLength, decimals, numbersText, labelText}
-use Rattle.labels.specs.Words.{word, bytesOf}
-use Rattle.labels.specs.Filled.{filled}
+use Rattle.text.specs.Words.{word, bytesOf}
+use Rattle.text.specs.Filled.{filled}
 use Rattle.labels.specs.Parts.{HasRoom, Narrow, NarrowFields}
 use Rattle.labels.proofs.DigitWords.{four-stored, pairs-stored}
-use Rattle.labels.proofs.Filled.{filled-then}
+use Rattle.text.proofs.Filled.{filled-then}
+use Rattle.text.proofs.Decimal.{number-below}
+use Rattle.labels.specs.Years.{firstLabelYear, lastLabelYear}
+
+-- a number that four digits are is a year that has a label
+pub label-year : (n : ℕ) → n ≡ number (digits n 4) → outside firstLabelYear lastLabelYear (pos n) ≡ false
+label-year n e = inside-pos 0 (natAbs lastLabelYear) n (omega arith) (omega (arith, number-below n 4, e))
 
 -- ---- fields that make an instant
 

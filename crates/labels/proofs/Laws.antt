@@ -25,14 +25,16 @@ use Rattle.instant.specs.Answers.{badInstant, badTime, splitAnswer, joinAnswer}
 use Rattle.instant.specs.declared.Fields.{Fields}
 use Rattle.instant.proofs.Ranges.{instants-of-days, day-inside}
 use Rattle.instant.proofs.Laws.{split-join, join-split}
-use Rattle.labels.specs.Digits.{digits, number, numberAt, fits}
+use Rattle.text.specs.Decimal.{digits, number}
+use Rattle.labels.specs.Digits.{numberAt, fits}
 use Rattle.labels.specs.Years.{firstLabelYear, lastLabelYear}
 use Rattle.labels.specs.Labelled.{firstLabelDay, lastLabelDay, firstLabelInstant, lastLabelInstant}
 use Rattle.labels.specs.Rfc3339.{labelLength, decimals, dateText, timeText, numbersText, dateShape, timeShape, labelText, fieldsLabel, instantLabel, readFields, readAnswer}
 use Rattle.labels.specs.Capitals.{inCapitals}
 use Rattle.labels.specs.Parts.{HasRoom, NarrowFields}
 use Rattle.labels.specs.Webvtt.{perHour, positionText, positionLabel}
-use Rattle.labels.proofs.Decimal.{number-digits, label-year}
+use Rattle.text.proofs.Decimal.{number-digits}
+use Rattle.labels.proofs.Instants.{label-year}
 use Rattle.labels.proofs.Positions.{length-position}
 use Rattle.labels.proofs.Shapes.{fits-both}
 use Rattle.labels.proofs.Texts.{date-back, date-capital, time-back, date-fits, time-fits}

@@ -1,10 +1,6 @@
-pub mod Words
-pub mod Filled
 pub mod Pieces
-pub mod Writing
 pub mod Cells
 pub mod DigitWords
-pub mod Decimal
 pub mod OneByte
 pub mod Gaps
 pub mod Rooms

@@ -6,8 +6,9 @@ use native.Mathlib.Omega.{arith}
 use borrow.Author.Tests.{eqb-true, eq-eqb, le-leb}
 use lib.Bits.{bitXor, xor-block, xor-zero-r, xor-self, xor-add-and, and-le-l, and-le-r}
 use lib.Dec.{eqb, lit<}
-use Rattle.labels.specs.Digits.{isDigit, hasSmall, small, fitsOne}
-use Rattle.labels.proofs.Decimal.{digit-range}
+use Rattle.text.specs.Decimal.{isDigit}
+use Rattle.labels.specs.Digits.{hasSmall, small, fitsOne}
+use Rattle.text.proofs.Decimal.{digit-range}
 
 -- numbers that do not differ in a bit are equal
 same : (a b : ℕ) → bitXor a b ≡ 0 → a ≡ b

@@ -5,9 +5,9 @@ use mathlib.Core.List.{List}
 use native.Mathlib.Nat.{mul-add, mul-zero, sub-self}
 use native.Mathlib.Omega.{arith}
 use lib.ListN.{length}
-use Rattle.labels.specs.Words.{partOf}
-use Rattle.labels.specs.Filled.{filled}
-use Rattle.labels.proofs.Filled.{filled-length, filled-nothing, filled-part}
+use Rattle.text.specs.Words.{partOf}
+use Rattle.text.specs.Filled.{filled}
+use Rattle.text.proofs.Filled.{filled-length, filled-nothing, filled-part}
 
 -- the pieces from one of them up to another
 pub record Placed (size from end : ℕ) (text before after : List ℕ) : Type 0 where

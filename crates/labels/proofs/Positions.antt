@@ -18,16 +18,17 @@ use Rattle.numbers.proofs.Between.{natural-within, read-high, inside-pos}
 use Rattle.numbers.proofs.Bools.{no-both}
 use Rattle.numbers.proofs.Integers.{wider}
 use Rattle.numbers.proofs.Machine.{read}
-use Rattle.labels.specs.Digits.{digits}
+use Rattle.text.specs.Decimal.{digits}
 use Rattle.labels.specs.Clock.{colon, clockText}
-use Rattle.labels.specs.Words.{word, bytesOf}
-use Rattle.labels.specs.Filled.{filled, Begins}
+use Rattle.text.specs.Words.{word, bytesOf}
+use Rattle.text.specs.Filled.{filled, Begins}
 use Rattle.labels.specs.PositionPieces.{hundredHours, shortText}
 use Rattle.labels.specs.Webvtt.{lastPosition, perHour, perMinute, perSecond, hourDigits, clockOf, positionText, positionLabel}
-use Rattle.labels.proofs.Decimal.{length-digits, drop-digits}
-use Rattle.labels.proofs.Words.{AllLe, drop-le, all-bytes, more-bytes, word-drop}
+use Rattle.text.proofs.Decimal.{length-digits, drop-digits}
+use Rattle.text.specs.Words.{AllLe}
+use Rattle.text.proofs.Words.{drop-le, all-bytes, more-bytes, word-drop}
 use Rattle.labels.proofs.DigitWords.{place-100, place-1000}
-use Rattle.labels.proofs.Filled.{filled-begins, filled-over}
+use Rattle.text.proofs.Filled.{filled-begins, filled-over}
 
 -- ---- the range
 

@@ -17,11 +17,12 @@ use Rattle.numbers.specs.Range.{outside}
 use Rattle.numbers.proofs.Bools.{no-both, and-left, and-right}
 use Rattle.numbers.proofs.Between.{natural-within, inside-pos}
 use Rattle.labels.specs.Clock.{colon, point, clockText}
-use Rattle.labels.specs.Digits.{digits, number, numberAt, fits}
+use Rattle.text.specs.Decimal.{digits, number}
+use Rattle.labels.specs.Digits.{numberAt, fits}
 use Rattle.labels.specs.Webvtt.{lastPosition, perHour, perMinute, perSecond, hourDigits, clockOf, positionText, positionLabel}
 use Rattle.labels.specs.Timestamps.{lastNine, inFront, isClock, areHours, isTimestamp, clockValue, hoursValue, positionOf}
 use Rattle.labels.specs.Timestamps.{withoutZeros, positionAnswer}
-use Rattle.labels.proofs.Decimal.{number-digits, length-digits}
+use Rattle.text.proofs.Decimal.{number-digits, length-digits}
 use Rattle.labels.proofs.TimestampParts.{clock-parts, front-cut, nine-cut}
 use Rattle.labels.proofs.Positions.{by-hours, two-to-five}
 use Rattle.labels.proofs.Shapes.{fits-both, digits-fit}

@@ -7,10 +7,13 @@ use native.Mathlib.Omega.{arith}
 use lib.ListN.{length, getD, take}
 use lib.Seq.{drop-cons}
 use Rattle.refusal.proofs.Outcomes.{clash}
-use Rattle.labels.specs.Digits.{number, numberAt, fits}
-use Rattle.labels.specs.Words.{word, byteOf, partOf, simple, OneWord, above, textOf, readValues, pairOf}
+use Rattle.text.specs.Decimal.{number}
+use Rattle.labels.specs.Digits.{numberAt, fits}
+use Rattle.text.specs.Words.{word, byteOf, partOf}
+use Rattle.labels.specs.Words.{simple, OneWord, above, textOf, readValues, pairOf}
 use Rattle.labels.specs.declared.digits.Values.the-variants.{Read, Malformed}
-use Rattle.labels.proofs.Words.{AllLe, word-le, byte-at, part-length, part-at}
+use Rattle.text.specs.Words.{AllLe}
+use Rattle.text.proofs.Words.{word-le, byte-at, part-length, part-at}
 use Rattle.labels.proofs.Gaps.{all-near, near-nines}
 
 -- ---- pairs of values

@@ -7,13 +7,16 @@ use native.Mathlib.Omega.{arith}
 use lib.ListN.{length, getD, take, drop, length-drop, drop-of-length-le}
 use lib.Seq.{take-all, drop-cons}
 use Rattle.refusal.specs.Outcome.{refused}
-use Rattle.labels.specs.Digits.{number, numberAt, letterT, letterZ, fitsOne, fits}
+use Rattle.text.specs.Decimal.{number}
+use Rattle.labels.specs.Digits.{numberAt, letterT, letterZ, fitsOne, fits}
 use Rattle.labels.specs.Rfc3339.{dash, labelLength, decimals, dateShape, timeShape, readFields, readAnswer}
-use Rattle.labels.specs.Words.{word, partOf, OneWord, textOf, readValues, pairOf, numberOf, ClockValues, Thousandths}
+use Rattle.text.specs.Words.{word, partOf}
+use Rattle.labels.specs.Words.{OneWord, textOf, readValues, pairOf, numberOf, ClockValues, Thousandths}
 use Rattle.labels.specs.declared.digits.Values.the-variants.{Read, Malformed}
 use Rattle.labels.specs.Parts.{joined, joinedValues, readTime}
 use Rattle.labels.proofs.Shapes.{clockShape, fractionShape, uneven, fits-from, fits-overlap}
-use Rattle.labels.proofs.Words.{AllLe, part-length, part-le, part-two, part-three, part-four, all-bytes}
+use Rattle.text.specs.Words.{AllLe}
+use Rattle.text.proofs.Words.{part-length, part-le, part-two, part-three, part-four, all-bytes}
 use Rattle.labels.proofs.Gaps.{all-near}
 use Rattle.labels.proofs.ReadValues.{ValuesRead, both-read, none-read, number-four, part-number}
 use Rattle.labels.proofs.Thousandths.{number-is}

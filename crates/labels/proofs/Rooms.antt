@@ -9,8 +9,10 @@ use lib.Dec.{eqb, lit<}
 use lib.ListN.{length, getD, replicate}
 use Rattle.numbers.proofs.Bools.{no-both, and-left, and-right}
 use Rattle.labels.specs.Digits.{fitsOne, fits}
-use Rattle.labels.specs.Words.{word, simple, roomOne, rooms}
-use Rattle.labels.proofs.Words.{AllLe, word-le}
+use Rattle.text.specs.Words.{word}
+use Rattle.labels.specs.Words.{simple, roomOne, rooms}
+use Rattle.text.specs.Words.{AllLe}
+use Rattle.text.proofs.Words.{word-le}
 use Rattle.labels.proofs.OneByte.{value-near}
 use Rattle.labels.proofs.Gaps.{gaps, Both, word-gaps, simple-low, simple-first, simple-rest, AllNear, near-nines}
 

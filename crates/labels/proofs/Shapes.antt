@@ -9,13 +9,14 @@ use lib.Dec.{eqb}
 use lib.ListN.{length, take, drop, replicate, take-append-drop}
 use lib.Seq.{drop-drop}
 use Rattle.numbers.proofs.Bools.{no-both, and-left, and-right}
-use Rattle.labels.specs.Digits.{digits, number, isDigit, letterT, letterZ, hasSmall, small, fitsOne, fits}
+use Rattle.text.specs.Decimal.{digits, number, isDigit}
+use Rattle.labels.specs.Digits.{letterT, letterZ, hasSmall, small, fitsOne, fits}
 use Rattle.labels.specs.Clock.{colon, point}
 use Rattle.labels.specs.Capitals.{capital, inCapitals}
-use Rattle.labels.specs.Words.{partOf}
-use Rattle.labels.specs.Stamps.{allDigits}
+use Rattle.text.specs.Words.{partOf}
+use Rattle.text.specs.Decimal.{allDigits}
 use Rattle.labels.specs.Timings.{letter-is}
-use Rattle.labels.proofs.Decimal.{is-digit, digits-number, length-digits}
+use Rattle.text.proofs.Decimal.{is-digit, digits-number, length-digits}
 
 -- `HH:MM:SS` and `.mmm`
 abbrev pub clockShape : List ℕ

@@ -12,14 +12,16 @@ use mir.Syntax.{w8}
 use mir.Val.{Fits}
 use Rattle.numbers.proofs.Bools.{and-left, and-right}
 use Rattle.labels.specs.Clock.{colon}
-use Rattle.labels.specs.Digits.{digits, number, isDigit, fits}
-use Rattle.labels.specs.Words.{word, bytesOf, partOf}
+use Rattle.text.specs.Decimal.{digits, number, isDigit}
+use Rattle.labels.specs.Digits.{fits}
+use Rattle.text.specs.Words.{word, bytesOf, partOf}
 use Rattle.labels.specs.Webvtt.{perHour}
 use Rattle.labels.specs.PositionPieces.{hundredHours}
 use Rattle.labels.specs.Timestamps.{isClock, areHours, isTimestamp, hoursValue, positionOf}
-use Rattle.labels.specs.Stamps.{stampOf, allDigits}
-use Rattle.labels.proofs.Words.{bytes, all-bytes, part-length, part-le, part-two, part-four, part-five}
-use Rattle.labels.proofs.Decimal.{from-append}
+use Rattle.text.specs.Decimal.{allDigits}
+use Rattle.labels.specs.Stamps.{stampOf}
+use Rattle.text.proofs.Words.{bytes, all-bytes, part-length, part-le, part-two, part-four, part-five}
+use Rattle.text.proofs.Decimal.{from-append}
 use Rattle.labels.proofs.Shapes.{fits-append, zeros}
 use Rattle.labels.proofs.TimestampParts.{timestamp-cut, position-cut, clock-parts, hours-below}
 use Rattle.labels.proofs.StampNumbers.{stamp-same}

@@ -13,14 +13,16 @@ use lib.Seq.{take-suc, take-all, length-take-le}
 use Rattle.numbers.specs.Range.{outside}
 use Rattle.numbers.proofs.Bools.{no-both, and-left, and-right}
 use Rattle.labels.specs.Clock.{clockText}
-use Rattle.labels.specs.Digits.{number, numberFrom, isDigit, fits}
-use Rattle.labels.specs.Words.{partOf}
+use Rattle.text.specs.Decimal.{number, numberFrom, isDigit}
+use Rattle.labels.specs.Digits.{fits}
+use Rattle.text.specs.Words.{partOf}
 use Rattle.labels.specs.Webvtt.{lastPosition}
 use Rattle.labels.specs.PositionPieces.{hundredHours}
 use Rattle.labels.specs.Timestamps.{lastNine, inFront, isClock, areHours, isTimestamp, positionOf}
-use Rattle.labels.specs.Stamps.{wrong, beyond, stampOf, allDigits, oneMore, limitedFrom, leading}
-use Rattle.labels.proofs.Words.{part-length}
-use Rattle.labels.proofs.Decimal.{digit-range, all-digits-more}
+use Rattle.text.specs.Decimal.{allDigits}
+use Rattle.labels.specs.Stamps.{wrong, beyond, stampOf, oneMore, limitedFrom, leading}
+use Rattle.text.proofs.Words.{part-length}
+use Rattle.text.proofs.Decimal.{digit-range, all-digits-more}
 use Rattle.labels.proofs.Shapes.{uneven}
 use Rattle.labels.proofs.StampNumbers.{no-stamp, is-stamp}
 use Rattle.labels.proofs.StampParts.{Long, long-parts}

@@ -8,10 +8,11 @@ use borrow.Author.Tests.{ne-eqb}
 use lib.ListN.{take, drop}
 use lib.Seq.{take-at}
 use Rattle.labels.specs.Clock.{colon, point}
-use Rattle.labels.specs.Digits.{digits, number, numberAt, letterT, letterZ, small, fits}
+use Rattle.text.specs.Decimal.{digits, number}
+use Rattle.labels.specs.Digits.{numberAt, letterT, letterZ, small, fits}
 use Rattle.labels.specs.Capitals.{capital, inCapitals}
 use Rattle.labels.specs.Rfc3339.{dash, dateText, timeText, dateShape, timeShape}
-use Rattle.labels.proofs.Decimal.{length-digits}
+use Rattle.text.proofs.Decimal.{length-digits}
 use Rattle.labels.proofs.Shapes.{digits-front, mark-front, letter-front, fits-both, digits-fit, fits-nothing}
 
 -- ---- a text of the shape is the text of its numbers

@@ -5,8 +5,10 @@ use mathlib.Core.List.{List, [], _∷_}
 use native.Mathlib.Omega.{arith}
 use lib.Bits.{bitAnd, and-block, and-mask}
 use lib.Dec.{lit<}
-use Rattle.labels.specs.Words.{word, numberOf, Thousandths}
-use Rattle.labels.proofs.Words.{AllLe, byte-at}
+use Rattle.text.specs.Words.{word}
+use Rattle.labels.specs.Words.{numberOf, Thousandths}
+use Rattle.text.specs.Words.{AllLe}
+use Rattle.text.proofs.Words.{byte-at}
 
 decimals-are : (a b c : ℕ) → a ≤ 9 → b ≤ 9 → c ≤ 9 → numberOf (word (0 ∷ a ∷ b ∷ c ∷ [])) 4 ≡ a * 100 + b * 10 + c
 decimals-are a b c ha hb hc =

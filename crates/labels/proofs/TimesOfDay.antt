@@ -15,8 +15,9 @@ use Rattle.instant.specs.Instant.{timeOfFields}
 use Rattle.instant.specs.Answers.{badTime}
 use Rattle.instant.specs.Checked.{timeAnswer}
 use Rattle.instant.proofs.Times.{natural}
-use Rattle.labels.specs.Words.{word, byteOf, pairOf, ClockValues}
-use Rattle.labels.proofs.Words.{AllLe}
+use Rattle.text.specs.Words.{word, byteOf}
+use Rattle.labels.specs.Words.{pairOf, ClockValues}
+use Rattle.text.specs.Words.{AllLe}
 use Rattle.labels.proofs.Rooms.{highest, low-clear, clear-low}
 use Rattle.labels.proofs.ReadValues.{pair-at}
 

@@ -10,10 +10,11 @@ use lib.ListN.{length, take, drop, length-append}
 use lib.Seq.{take-at, drop-at}
 use Rattle.numbers.proofs.Bools.{and-left, and-right}
 use Rattle.labels.specs.Clock.{colon, point, clockText}
-use Rattle.labels.specs.Digits.{digits, number, numberAt, fits}
+use Rattle.text.specs.Decimal.{digits, number}
+use Rattle.labels.specs.Digits.{numberAt, fits}
 use Rattle.labels.specs.Webvtt.{perHour}
 use Rattle.labels.specs.Timestamps.{lastNine, inFront, isClock, hoursText, areHours, isTimestamp, clockValue, hoursValue, positionOf}
-use Rattle.labels.proofs.Decimal.{number-below, length-digits}
+use Rattle.text.proofs.Decimal.{number-below, length-digits}
 use Rattle.labels.proofs.Shapes.{digits-front, mark-front, fits-nothing}
 
 -- ---- a text whose last nine bytes are given

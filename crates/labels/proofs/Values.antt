@@ -8,9 +8,10 @@ use native.Mathlib.Omega.{arith}
 use lib.Bits.{bitAnd, bitOr, bitXor}
 use lib.ListN.{length, length-map}
 use Rattle.labels.specs.Digits.{fits}
-use Rattle.labels.specs.Words.{word, roomOne, rooms, OneWord, above, textOf, readValues}
+use Rattle.text.specs.Words.{word}
+use Rattle.labels.specs.Words.{roomOne, rooms, OneWord, above, textOf, readValues}
 use Rattle.labels.specs.declared.digits.Values.the-variants.{Read, Malformed}
-use Rattle.labels.proofs.Words.{lower, length-bytes, bytes-le, word-bytes}
+use Rattle.text.proofs.Words.{lower, length-bytes, bytes-le, word-bytes}
 use Rattle.labels.proofs.Gaps.{gaps, simple-low, AllNear, all-near, gaps-are, near-all-fit}
 use Rattle.labels.proofs.Rooms.{highest, Held, or-none, low-text, text-clear, gap-word, gaps-size, sum-below, roomy, room-clear, fits-low, rooms-le, near-roomy, roomy-near}
 

@@ -22,12 +22,13 @@ use Rattle.week.specs.Answers.{firstWeekYear, lastWeekYear, weekAnswer, weekDay
 use Rattle.week.proofs.Weeks.{week-date-in}
 use Rattle.week.proofs.OrderLaws.{in-earlier-week-year}
 use Rattle.week.proofs.Laws.{days-of-week, week-of-days, week-refusal, four-at-the-ends}
-use Rattle.labels.specs.Digits.{digits, numberAt, fits}
+use Rattle.text.specs.Decimal.{digits}
+use Rattle.labels.specs.Digits.{numberAt, fits}
 use Rattle.labels.specs.Rfc3339.{dash}
 use Rattle.labels.specs.Years.{firstLabelYear, lastLabelYear}
 use Rattle.labels.specs.Labelled.{firstWeekLabelDay, lastWeekLabelDay}
 use Rattle.labels.specs.IsoWeek.{letterW, weekLength, weekText, weekDateLabel, weekLabel, weekShape, readNumbers, readWeekAnswer}
-use Rattle.labels.proofs.Decimal.{label-year}
+use Rattle.labels.proofs.Instants.{label-year}
 use Rattle.labels.proofs.Shapes.{fits-both, digits-fit, digits-front, mark-front, fits-nothing}
 use Rattle.labels.proofs.Laws.{field-back}
 use Rattle.labels.proofs.WeekTexts.{week-room}

@@ -16,16 +16,18 @@ use Rattle.week.specs.declared.WeekDate.{WeekDate}
 use Rattle.week.specs.Week.{weekDateOf}
 use Rattle.week.specs.Answers.{weekAnswer, weekDaysAnswer}
 use Rattle.week.proofs.Laws.{week-date-is-right}
-use Rattle.labels.specs.Digits.{digits, number, numberAt, fits}
+use Rattle.text.specs.Decimal.{digits, number}
+use Rattle.labels.specs.Digits.{numberAt, fits}
 use Rattle.labels.specs.Rfc3339.{dash}
 use Rattle.labels.specs.IsoWeek.{letterW, weekLength, weekText, weekShape, readNumbers, readWeekAnswer}
-use Rattle.labels.specs.Words.{partOf, pairOf}
-use Rattle.labels.specs.Filled.{filled}
+use Rattle.text.specs.Words.{partOf}
+use Rattle.labels.specs.Words.{pairOf}
+use Rattle.text.specs.Filled.{filled}
 use Rattle.labels.specs.WeekPieces.{pieces}
 use Rattle.labels.specs.Parts.{HasRoom}
-use Rattle.labels.proofs.Words.{part-length, part-four}
+use Rattle.text.proofs.Words.{part-length, part-four}
 use Rattle.labels.proofs.DigitWords.{both-text}
-use Rattle.labels.proofs.Filled.{filled-then}
+use Rattle.text.proofs.Filled.{filled-then}
 use Rattle.labels.proofs.Shapes.{uneven, fits-overlap}
 use Rattle.labels.proofs.Gaps.{all-near}
 use Rattle.labels.proofs.ReadValues.{ValuesRead, number-four, part-number}

@@ -7,7 +7,8 @@ use lib.Dec.{eqb}
 use lib.IntN.{ℤ}
 use lib.ListN.{drop}
 use Rattle.refusal.specs.Outcome.{Outcome, refused}
-use Rattle.labels.specs.Digits.{digits, isDigit, letterT, letterZ, small}
+use Rattle.text.specs.Decimal.{digits, isDigit}
+use Rattle.labels.specs.Digits.{letterT, letterZ, small}
 use Rattle.labels.specs.Clock.{colon, clockText}
 use Rattle.labels.specs.Rfc3339.{decimals, dateShape, timeShape, readFields}
 

@@ -1,31 +1,14 @@
--- Decimal digits as bytes, and texts of one shape, whose letters may be small. 48 is the byte of the digit 0, and 57 that of 9.
-use Prim.Native.Nat.{ℕ, zero, suc, _+_, _-_, _*_, _/_, _%_}
+-- Texts of one shape, with digits at fixed places, whose letters may be small. 48 is the byte of the digit 0.
+use Prim.Native.Nat.{ℕ, _+_}
 use mathlib.Core.Bool.{Bool, true, false, cond, _&&_, _||_}
-use mathlib.Core.List.{List, [], _∷_, _++_}
-use lib.Dec.{eqb, leb}
+use mathlib.Core.List.{List, [], _∷_}
+use lib.Dec.{eqb}
 use lib.ListN.{take, drop}
-
--- the last `count` decimal digits of n, the most significant first
-abbrev pub digits : (n count : ℕ) → List ℕ
-digits n zero = []
-digits n (suc count) = digits (n / 10) count ++ (48 + n % 10) ∷ []
-
--- the number that is `so far`, followed by digits
-abbrev pub numberFrom : (so-far : ℕ) → List ℕ → ℕ
-numberFrom so-far [] = so-far
-numberFrom so-far (byte ∷ bytes) = numberFrom (so-far * 10 + (byte - 48)) bytes
-
--- the number of a text of digits
-abbrev pub number : List ℕ → ℕ
-number = numberFrom 0
+use Rattle.text.specs.Decimal.{number, isDigit}
 
 -- the number of `count` digits of a text from byte `at` on
 abbrev pub numberAt : (at count : ℕ) → List ℕ → ℕ
 numberAt at count text = number (take count (drop at text))
-
--- a byte of 48 to 57
-abbrev pub isDigit : ℕ → Bool
-isDigit byte = leb 48 byte && leb byte 57
 
 -- the letters T and Z
 abbrev pub letterT : ℕ

@@ -7,7 +7,8 @@ use Rattle.refusal.specs.Outcome.{Outcome, value, refused, andThen}
 use Rattle.numbers.specs.Range.{outside}
 use Rattle.week.specs.Answers.{weekAnswer, weekDaysAnswer}
 use Rattle.week.specs.declared.WeekDate.{WeekDate}
-use Rattle.labels.specs.Digits.{digits, numberAt, fits}
+use Rattle.text.specs.Decimal.{digits}
+use Rattle.labels.specs.Digits.{numberAt, fits}
 use Rattle.labels.specs.Rfc3339.{dash}
 use Rattle.labels.specs.Years.{firstLabelYear, lastLabelYear}
 

@@ -5,7 +5,6 @@ pub mod Years
 pub mod Rfc3339
 pub mod IsoWeek
 pub mod Webvtt
-pub mod Written
 pub mod Timestamps
 pub mod CueLines
 pub mod Cues
@@ -14,7 +13,6 @@ pub mod Capitals
 pub mod Labelled
 -- What only proofs and private contracts need, but for the type of `timingOf`.
 pub mod Words
-pub mod Filled
 pub mod Parts
 pub mod Timings
 pub mod Stamps

@@ -2,7 +2,7 @@
 -- them.
 use Prim.Native.Nat.{ℕ, _+_, _*_, _/_, _%_, _<_}
 use mathlib.Core.List.{List, [], _∷_, _++_}
-use Rattle.labels.specs.Digits.{digits}
+use Rattle.text.specs.Decimal.{digits}
 use Rattle.labels.specs.Clock.{colon, point}
 use Rattle.labels.specs.Webvtt.{perHour}
 

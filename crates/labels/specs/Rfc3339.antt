@@ -9,7 +9,8 @@ use Rattle.refusal.specs.Outcome.{Outcome, value, refused, andThen}
 use Rattle.numbers.specs.Range.{outside}
 use Rattle.instant.specs.Answers.{splitAnswer, joinAnswer}
 use Rattle.instant.specs.declared.Fields.{Fields}
-use Rattle.labels.specs.Digits.{digits, numberAt, letterT, letterZ, fits}
+use Rattle.text.specs.Decimal.{digits}
+use Rattle.labels.specs.Digits.{numberAt, letterT, letterZ, fits}
 use Rattle.labels.specs.Clock.{colon, clockText}
 use Rattle.labels.specs.Years.{firstLabelYear, lastLabelYear}
 

@@ -1,13 +1,13 @@
 -- What the code makes of a timestamp, a single number, for proofs and private contracts only: nobody has to believe it.
 use Prim.Native.Nat.{ℕ, _+_, _*_, _%_, _^_, _<_}
 use mathlib.Core.Path.{_≡_}
-use mathlib.Core.Bool.{Bool, true, cond, _&&_, _||_}
+use mathlib.Core.Bool.{cond, _||_}
 use mathlib.Core.List.{List, [], _∷_}
 use lib.Dec.{eqb, ltb}
 use lib.IntN.{pos}
 use Rattle.refusal.specs.Outcome.{Outcome, value, refused}
 use Rattle.numbers.specs.Range.{outside}
-use Rattle.labels.specs.Digits.{isDigit}
+use Rattle.text.specs.Decimal.{allDigits}
 use Rattle.labels.specs.Webvtt.{lastPosition}
 use Rattle.labels.specs.Timestamps.{isTimestamp, positionOf}
 use Rattle.labels.specs.declared.webvtt.Cue.{Cue}
@@ -28,11 +28,6 @@ pub data Stamp (n : ℕ) : Type 0 where
   no-timestamp : n ≡ wrong → Stamp n
   above-limit : n ≡ beyond → Stamp n
   in-range : n < beyond → Stamp n
-
--- all of a text are digits
-abbrev pub allDigits : (text : List ℕ) → Bool
-allDigits [] = true
-allDigits (byte ∷ bytes) = isDigit byte && allDigits bytes
 
 -- one more digit, unless the number is above 999 already
 abbrev pub oneMore : (so-far byte : ℕ) → ℕ

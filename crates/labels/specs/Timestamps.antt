@@ -8,7 +8,8 @@ use lib.IntN.{ℤ, pos}
 use lib.ListN.{length, getD, take, drop}
 use Rattle.refusal.specs.Outcome.{Outcome, value, refused}
 use Rattle.numbers.specs.Range.{outside}
-use Rattle.labels.specs.Digits.{digits, number, numberAt, fits}
+use Rattle.text.specs.Decimal.{digits, number}
+use Rattle.labels.specs.Digits.{numberAt, fits}
 use Rattle.labels.specs.Clock.{colon, clockText}
 use Rattle.labels.specs.Webvtt.{lastPosition, perHour, perMinute, perSecond}
 

@@ -11,7 +11,8 @@ use lib.Dec.{eqb, leb, ltb}
 use lib.ListN.{length, take, drop, take-append-drop}
 use lib.Seq.{take-at, drop-at, drop-drop, length-take-le}
 use Rattle.numbers.proofs.Bools.{no-both, and-left, and-right}
-use Rattle.labels.specs.Digits.{digits, isDigit, letterT, letterZ, hasSmall, small, isMark, fitsOne, fits}
+use Rattle.text.specs.Decimal.{digits, isDigit}
+use Rattle.labels.specs.Digits.{letterT, letterZ, hasSmall, small, isMark, fitsOne, fits}
 use Rattle.labels.specs.Clock.{colon, clockText}
 use Rattle.labels.specs.Timestamps.{lastNine, inFront, isClock, areHours, isTimestamp}
 use Rattle.labels.specs.CueLines.{isBlank, allBlank, areBlanks, arrow, CueLine, Timing, between, of-none}

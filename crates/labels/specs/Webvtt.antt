@@ -6,7 +6,7 @@ use lib.Dec.{ltb}
 use lib.IntN.{ℤ, pos, natAbs}
 use Rattle.refusal.specs.Outcome.{Outcome, value, refused}
 use Rattle.numbers.specs.Range.{outside}
-use Rattle.labels.specs.Digits.{digits}
+use Rattle.text.specs.Decimal.{digits}
 use Rattle.labels.specs.Clock.{colon, clockText}
 
 -- positions are 0 to 359999999999 milliseconds

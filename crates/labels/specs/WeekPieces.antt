@@ -1,7 +1,7 @@
 -- The front of a week label in four pieces of two bytes, for proofs and private contracts only: nobody has to believe them.
 use Prim.Native.Nat.{ℕ, _<_}
 use mathlib.Core.List.{List, _∷_, _++_}
-use Rattle.labels.specs.Digits.{digits}
+use Rattle.text.specs.Decimal.{digits}
 use Rattle.labels.specs.Rfc3339.{dash}
 use Rattle.labels.specs.IsoWeek.{letterW}
 

@@ -5,23 +5,10 @@ use mathlib.Core.Bool.{Bool, true, cond, not, _&&_}
 use mathlib.Core.List.{List, [], _∷_, _++_, map}
 use lib.Dec.{eqb, leb}
 use lib.ListN.{length, take, drop}
+use Rattle.text.specs.Words.{word, byteOf, bytesOf}
 use Rattle.labels.specs.Digits.{hasSmall, fits}
 use Rattle.labels.specs.declared.digits.Values.{Values}
 use Rattle.labels.specs.declared.digits.Values.the-variants.{Read, Malformed}
-
--- bytes as one number, the first byte the lowest
-abbrev pub word : List ℕ → ℕ
-word [] = 0
-word (b ∷ bs) = word bs * 256 + b
-
--- byte k of a number
-abbrev pub byteOf : (n k : ℕ) → ℕ
-byteOf n k = n / 2 ^ (8 * k) % 256
-
--- the first bytes of a number
-abbrev pub bytesOf : (count n : ℕ) → List ℕ
-bytesOf zero n = []
-bytesOf (suc count) n = bytesOf count n ++ byteOf n count ∷ []
 
 -- a shape without T and Z, of bytes that a digit's value more leaves below 128
 abbrev pub simple : (shape : List ℕ) → Bool
@@ -44,10 +31,6 @@ abbrev pub above : (shape text : List ℕ) → List ℕ
 above [] text = []
 above (s ∷ ss) [] = []
 above (s ∷ ss) (b ∷ bs) = (b - s) ∷ above ss bs
-
--- `count` bytes of a text from byte `at` on
-abbrev pub partOf : (at count : ℕ) → List ℕ → List ℕ
-partOf at count text = take count (drop at text)
 
 -- the bytes of a number as a text against a shape
 abbrev pub textOf : (shape : List ℕ) (n : ℕ) → List ℕ

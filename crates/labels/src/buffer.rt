@@ -4,8 +4,8 @@ ghost use mathlib.Core.Path.{_≡_};
 ghost use Prim.Native.Nat.{_+_, _≤_, _<_};
 ghost use mathlib.Core.List.{[], _∷_, _++_};
 ghost use lib.ListN.{length};
-ghost use Rattle.labels.specs.Words.{bytesOf};
-ghost use Rattle.labels.specs.Filled.{filled};
+ghost use Rattle.text.specs.Words.{bytesOf};
+ghost use Rattle.text.specs.Filled.{filled};
 
 // Stores the first `count` bytes of a number, the lowest first, from byte `at` of a buffer on, and one more byte behind them.
 pub fn store(out: &mut [u8], at: usize, word: u64, count: usize, last: u8)

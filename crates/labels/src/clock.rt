@@ -17,7 +17,7 @@ ghost use lib.ListN.{length};
 ghost use Rattle.refusal.specs.Outcome.{numberOutcome};
 ghost use Rattle.instant.specs.Checked.{timeAnswer};
 ghost use Rattle.labels.specs.Clock.{clockText};
-ghost use Rattle.labels.specs.Filled.{filled};
+ghost use Rattle.text.specs.Filled.{filled};
 ghost use Rattle.labels.specs.Words.{pairOf, numberOf, ClockValues, Thousandths};
 
 // What the tens of minutes and seconds, which are the first and the last byte of `MM:S`, can be raised by without setting a highest

@@ -5,7 +5,7 @@ ghost use mathlib.Core.Path.{_≡_};
 ghost use Prim.Native.Nat.{_+_, _≤_};
 ghost use lib.ListN.{length, drop};
 ghost use Rattle.labels.specs.Digits.{fits};
-ghost use Rattle.labels.specs.Words.{partOf};
+ghost use Rattle.text.specs.Words.{partOf};
 ghost use Rattle.labels.specs.CueLines.{isBlank, arrow};
 ghost use Rattle.labels.specs.Timings.{run, usualGap, EndsFirst};
 

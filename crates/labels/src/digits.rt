@@ -4,8 +4,9 @@ ghost use mathlib.Core.Path.{_≡_};
 ghost use Prim.Native.Nat.{_+_, _^_, _/_, _≤_, _<_};
 ghost use mathlib.Core.List.{_∷_, _++_};
 ghost use lib.ListN.{length};
-ghost use Rattle.labels.specs.Digits.{digits};
-ghost use Rattle.labels.specs.Words.{word, partOf, roomOne, rooms, OneWord, readValues, pairs, pairOf, numberOf, Thousandths};
+ghost use Rattle.text.specs.Decimal.{digits};
+ghost use Rattle.text.specs.Words.{word, partOf};
+ghost use Rattle.labels.specs.Words.{roomOne, rooms, OneWord, readValues, pairs, pairOf, numberOf, Thousandths};
 
 // The byte of the digit 0.
 pub const ZERO: u32 = 48;

@@ -1,6 +1,5 @@
 // ISO 8601 week labels: `YYYY-Www-D` (document 02, request Seven).
 
-use crate::WriteAnswer;
 use crate::buffer;
 use crate::digits;
 use crate::digits::DASH;
@@ -12,16 +11,17 @@ use crate::years::FIRST_LABEL_YEAR;
 use crate::years::LAST_LABEL_YEAR;
 use refusal::NumberAnswer;
 use refusal::Refusal;
+use refusal::WriteAnswer;
 use week::WeekAnswer;
 use week::WeekDate;
 ghost use mathlib.Core.Path.{_≡_};
 ghost use Prim.Native.Nat.{_+_, _*_, _≤_, _<_, _^_};
 ghost use lib.ListN.{length};
 ghost use Rattle.refusal.specs.Outcome.{numberOutcome};
-ghost use Rattle.labels.specs.Written.{writeOutcome, bytesWritten, writtenBuffer};
-ghost use Rattle.labels.specs.Filled.{filled};
-ghost use Rattle.labels.specs.Digits.{digits};
-ghost use Rattle.labels.specs.Words.{bytesOf, partOf};
+ghost use Rattle.refusal.specs.Written.{writeOutcome, bytesWritten, writtenBuffer};
+ghost use Rattle.text.specs.Filled.{filled};
+ghost use Rattle.text.specs.Decimal.{digits};
+ghost use Rattle.text.specs.Words.{bytesOf, partOf};
 ghost use Rattle.labels.specs.WeekPieces.{pieces, PiecesBelow};
 ghost use Rattle.labels.specs.Parts.{HasRoom};
 ghost use Rattle.labels.specs.IsoWeek.{weekLength, weekText, weekDateLabel, weekLabel, readWeekAnswer};

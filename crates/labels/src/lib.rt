@@ -32,11 +32,6 @@ mod years;
 ghost use mathlib.Core.Path.{_≡_};
 ghost use Rattle.refusal.specs.Outcome.{refused, numberOutcome};
 
-pub enum WriteAnswer {
-    Written(usize),
-    Refused(Refusal),
-}
-
 // What the readers of labels answer to a label of another shape.
 fn malformed() -> NumberAnswer
     ensures { λ r. ⌜ numberOutcome r ≡ refused 8 ⌝ }

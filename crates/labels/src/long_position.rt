@@ -1,6 +1,5 @@
 // The label of a position from 100 hours on, `HHH:MM:SS.mmm` with three to five digits of hours, and no branch that asks how many.
 
-use crate::WriteAnswer;
 use crate::buffer;
 use crate::clock;
 use crate::digits;
@@ -10,17 +9,18 @@ use crate::timestamp::MS_PER_HOUR;
 use crate::timestamp::MS_PER_SECOND;
 use crate::timestamp::SECONDS_PER_MINUTE;
 use refusal::Refusal;
+use refusal::WriteAnswer;
 ghost use mathlib.Core.Path.{_≡_};
 ghost use Prim.Native.Nat.{_+_, _≤_, _<_};
 ghost use mathlib.Core.List.{_∷_};
 ghost use lib.IntN.{natAbs};
 ghost use lib.ListN.{length};
 ghost use Rattle.refusal.specs.Outcome.{value};
-ghost use Rattle.labels.specs.Written.{writeOutcome, bytesWritten, writtenBuffer};
-ghost use Rattle.labels.specs.Filled.{filled, Begins};
+ghost use Rattle.refusal.specs.Written.{writeOutcome, bytesWritten, writtenBuffer};
+ghost use Rattle.text.specs.Filled.{filled, Begins};
 ghost use Rattle.labels.specs.Webvtt.{lastPosition, hourDigits, clockOf, positionText};
 ghost use Rattle.labels.specs.PositionPieces.{hundredHours};
-ghost use Rattle.labels.specs.Digits.{digits};
+ghost use Rattle.text.specs.Decimal.{digits};
 ghost use Rattle.labels.specs.Clock.{colon};
 
 // Writes the label of n milliseconds. 7 for a buffer shorter than it.

@@ -1,6 +1,5 @@
 // RFC 3339 instant labels (RFC 3339, section 5.6): `YYYY-MM-DDTHH:MM:SS.mmmZ`, read with a small t or z too.
 
-use crate::WriteAnswer;
 use crate::buffer;
 use crate::clock;
 use crate::date;
@@ -17,13 +16,14 @@ use instant::FieldsAnswer;
 use instant::units::PER_DAY;
 use refusal::NumberAnswer;
 use refusal::Refusal;
+use refusal::WriteAnswer;
 ghost use mathlib.Core.Path.{_≡_};
 ghost use mathlib.Core.Bool.{true};
 ghost use Prim.Native.Nat.{_+_, _*_, _≤_, _<_};
 ghost use lib.ListN.{length};
 ghost use Rattle.refusal.specs.Outcome.{numberOutcome};
-ghost use Rattle.labels.specs.Written.{writeOutcome, bytesWritten, writtenBuffer};
-ghost use Rattle.labels.specs.Filled.{filled};
+ghost use Rattle.refusal.specs.Written.{writeOutcome, bytesWritten, writtenBuffer};
+ghost use Rattle.text.specs.Filled.{filled};
 ghost use Rattle.labels.specs.Rfc3339.{labelLength, decimals, numbersText, fieldsLabel, instantLabel, readAnswer};
 ghost use Rattle.labels.specs.Digits.{hasSmall, fitsOne};
 ghost use Rattle.labels.specs.Words.{ClockValues, Thousandths};

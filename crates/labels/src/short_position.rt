@@ -1,7 +1,6 @@
 // The label of a position below 100 hours, `HH:MM:SS.mmm`, written as four pieces of three bytes: two digits, and a mark or the last
 // digit.
 
-use crate::WriteAnswer;
 use crate::buffer;
 use crate::digits::COLON;
 use crate::digits::POINT;
@@ -9,15 +8,16 @@ use crate::digits::ZERO;
 use crate::time_fields;
 use crate::two_digits;
 use refusal::Refusal;
+use refusal::WriteAnswer;
 ghost use mathlib.Core.Path.{_≡_};
 ghost use Prim.Native.Nat.{_+_, _*_, _≤_, _<_};
 ghost use mathlib.Core.List.{[], _∷_};
 ghost use lib.ListN.{length};
 ghost use Rattle.refusal.specs.Outcome.{value};
-ghost use Rattle.labels.specs.Written.{writeOutcome, bytesWritten, writtenBuffer};
-ghost use Rattle.labels.specs.Digits.{digits};
-ghost use Rattle.labels.specs.Filled.{filled};
-ghost use Rattle.labels.specs.Words.{partOf};
+ghost use Rattle.refusal.specs.Written.{writeOutcome, bytesWritten, writtenBuffer};
+ghost use Rattle.text.specs.Decimal.{digits};
+ghost use Rattle.text.specs.Filled.{filled};
+ghost use Rattle.text.specs.Words.{partOf};
 ghost use Rattle.labels.specs.Webvtt.{positionText};
 ghost use Rattle.labels.specs.PositionPieces.{hundredHours, shortText, ShortTime};
 

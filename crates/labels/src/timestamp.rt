@@ -7,8 +7,8 @@ ghost use mathlib.Core.Path.{_≡_};
 ghost use Prim.Native.Nat.{_+_, _^_, _≤_, _<_};
 ghost use mathlib.Core.List.{_++_};
 ghost use lib.ListN.{length, take};
-ghost use Rattle.labels.specs.Digits.{isDigit};
-ghost use Rattle.labels.specs.Words.{bytesOf, partOf};
+ghost use Rattle.text.specs.Decimal.{isDigit};
+ghost use Rattle.text.specs.Words.{bytesOf, partOf};
 ghost use Rattle.labels.specs.Stamps.{stampOf, oneMore, leading};
 
 // What stands for the position of a text that is no timestamp, and for a position above the limit.

@@ -1,7 +1,6 @@
 // WebVTT position labels (W3C, WebVTT): hours, `:MM:SS.mmm`. Positions are in milliseconds. Read are timestamps with any number of
 // zeros in front of the hours, or without hours, and cue timing lines without settings.
 
-use crate::WriteAnswer;
 use crate::cue;
 use crate::long_position;
 use crate::short_position;
@@ -11,9 +10,10 @@ use crate::timestamp::MS_PER_HUNDRED_HOURS;
 use crate::timestamp::WRONG;
 use refusal::NumberAnswer;
 use refusal::Refusal;
+use refusal::WriteAnswer;
 ghost use mathlib.Core.Path.{_≡_};
 ghost use Rattle.refusal.specs.Outcome.{refused, numberOutcome};
-ghost use Rattle.labels.specs.Written.{writeOutcome, bytesWritten, writtenBuffer};
+ghost use Rattle.refusal.specs.Written.{writeOutcome, bytesWritten, writtenBuffer};
 ghost use Rattle.labels.specs.Webvtt.{positionLabel};
 ghost use Rattle.labels.specs.Timestamps.{positionAnswer};
 ghost use Rattle.labels.specs.Cues.{cueOutcome, cueLineAnswer};

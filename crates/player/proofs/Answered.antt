@@ -10,7 +10,7 @@ use mir.Val.{SFits, toZ, boolByte}
 use mir.Facts.{toZ-ofZ}
 use Rattle.refusal.specs.Outcome.{Outcome, afterCall}
 use Rattle.numbers.proofs.Machine.{read}
-use Rattle.labels.specs.Written.{bytesWritten, writtenBuffer}
+use Rattle.refusal.specs.Written.{bytesWritten, writtenBuffer}
 use Rattle.player.specs.Returned.{returnedCount, returnedDone, afterRefusal}
 
 -- a number in the range of an i64, read as one

@@ -1,10 +1,10 @@
 -- The natural numbers that an answer hands back are no larger than what was lent or asked for, so each fits an i64.
-use Prim.Native.Nat.{ℕ, _≤_, _<_, _^_}
+use Prim.Native.Nat.{ℕ, _<_, _^_}
 use mathlib.Core.Path.{_≡_, refl, sym, _∙_, subst}
 use mathlib.Core.Bool.{Bool, true, false, cond, not, _||_}
 use mathlib.Core.List.{List}
 use native.Mathlib.Omega.{arith}
-use borrow.Author.Tests.{ltb-true, ltb-false}
+use borrow.Author.Tests.{ltb-true}
 use lib.Dec.{eqb, ltb}
 use lib.IntN.{ℤ, pos, negsuc, natAbs}
 use lib.ListN.{length}
@@ -12,27 +12,20 @@ use lib.Signed.{mag}
 use mir.Syntax.{w64}
 use mir.Val.{SFits}
 use mir.Facts.{toZ-ofZ}
-use Rattle.refusal.specs.Outcome.{Outcome, value, refused, refusedAt, mapValue}
+use Rattle.refusal.specs.Outcome.{Outcome, value, refused, refusedAt}
 use Rattle.numbers.proofs.Machine.{read}
 use Rattle.refusal.proofs.Outcomes.{clash}
 use Rattle.instant.specs.Answers.{firstBad, firstFall, indexDaysAnswer}
-use Rattle.labels.specs.Written.{bytesWritten}
-use Rattle.constants.specs.Least.{Found, at, none, leastBelow}
-use Rattle.constants.specs.Limits.{outsideLimits, endOutside, boundOutside}
-use Rattle.constants.specs.Answers.{Acceptance, difference, differenceAnswer, claimed, boundAnswer}
+use Rattle.refusal.specs.Written.{bytesWritten}
+use Rattle.text.proofs.Writing.{bytes-within}
+use Rattle.constants.specs.Least.{Found, at, leastBelow}
+use Rattle.constants.specs.Limits.{outsideLimits, endOutside}
+use Rattle.constants.specs.Answers.{Acceptance, difference, differenceAnswer, boundAnswer}
 use Rattle.constants.proofs.Least.{finds-at}
-
--- the bytes that are written are not more than there are
-bytes-within : (label : Outcome (List ℕ)) (buffer : List ℕ) (n : ℕ) → bytesWritten label buffer ≡ value n → n ≤ length buffer
-bytes-within (value label) buffer n e = go (ltb (length buffer) (length label)) refl e
-  where
-    go :
-        (short : Bool) → ltb (length buffer) (length label) ≡ short →
-        mapValue length (cond short (refused 7) (value label)) ≡ value n → n ≤ length buffer
-    go true h e = clash (cc)
-    go false h e = let same : length label ≡ n = cc in omega (arith, ltb-false (length buffer) (length label) h)
-bytes-within (refused number) buffer n e = clash (cc)
-bytes-within (refusedAt number place) buffer n e = clash (cc)
+use Rattle.constants.proofs.Answers.{claim-cases}
+use Rattle.sheet.specs.Answers as sheets
+use Rattle.sheet.specs.declared.Contents.{Contents}
+use Rattle.sheet.proofs.Trailer.{opened, check-least}
 
 pub bytes-fit :
     (label : Outcome (List ℕ)) (buffer : List ℕ) → length buffer < 2 ^ 63 → {outcome : Outcome ℕ} → outcome ≡ bytesWritten label buffer →
@@ -89,16 +82,9 @@ module _ (a b d m c k t : ℤ) where
       go false e = let found : leastBelow D (natAbs end) ≡ at n = cc in finds-at D (natAbs end) n .0 found .below
 
   least-below : (bound : ℤ) (number n : ℕ) → boundAnswer a b d m c k t bound ≡ refusedAt number n → n < natAbs bound
-  unfolding boundAnswer D
-  least-below bound number n = go (outsideLimits a b d m c k t || boundOutside bound) (leastBelow D (natAbs bound)) refl (D (natAbs bound))
-    where
-      go :
-          (outside : Bool) (found : Found) → leastBelow D (natAbs bound) ≡ found → (here : Bool) →
-          cond outside (refused 9) (claimed found here) ≡ refusedAt number n → n < natAbs bound
-      go true found h here e = clash (cc)
-      go false (at l) h here e = let same : l ≡ n = cc in omega (arith, finds-at D (natAbs bound) l .0 h .below)
-      go false none h true e = clash (cc)
-      go false none h false e = clash (cc)
+  least-below bound number n =
+      claim-cases a b d m c k t bound (λ o. o ≡ refusedAt number n → n < natAbs bound) (λ e. clash (cc))
+      (λ l below limit e. let same : l ≡ n = cc in omega arith) (λ e. clash (cc)) (λ e. clash (cc))
 
   pub found-fits :
       {end : ℤ} → SFits w64 end → {outcome : Outcome Found} → outcome ≡ differenceAnswer a b d m c k t (read end) →
@@ -109,3 +95,14 @@ module _ (a b d m c k t : ℤ) where
       {bound : ℤ} → SFits w64 bound → {outcome : Outcome Acceptance} → outcome ≡ boundAnswer a b d m c k t (read bound) →
       (number n : ℕ) → outcome ≡ refusedAt number n → n < 2 ^ 63
   least-fits {bound} fits same number n e = below-fits fits (least-below (read bound) number n (sym same ∙ e))
+
+-- what a sheet holds, and the least n of one of its records
+pub contents-fit :
+    (sheet : List ℕ) {outcome : Outcome Contents} → outcome ≡ sheets.readAnswer sheet → (contents : Contents) → outcome ≡ value contents →
+    (contents .records < 2 ^ 63) × (contents .offset < 2 ^ 63)
+contents-fit sheet same contents e = let o = opened sheet (sym same ∙ e) in (omega arith, omega arith)
+
+pub check-fits :
+    (sheet : List ℕ) (place : ℤ) {outcome : Outcome Acceptance} → outcome ≡ sheets.checkAnswer sheet place →
+    (number n : ℕ) → outcome ≡ refusedAt number n → n < 2 ^ 63
+check-fits sheet place same number n e = let l = check-least sheet place number n (sym same ∙ e) in omega arith

@@ -5,7 +5,7 @@ use mathlib.Core.Path.{_≡_, refl, sym, ap, _∙_}
 use mathlib.Core.Bool.{Bool, true, false, cond, not, _||_}
 use mathlib.Core.List.{List, [], _∷_, _++_}
 use lib.IntN.{ℤ, pos, natAbs, negℤ, _+ℤ_}
-use lib.Dec.{eqb, ltb}
+use lib.Dec.{eqb, leb, ltb}
 use lib.ListN.{length}
 use lib.Signed.{nonNeg, ltZ}
 use Rattle.refusal.specs.Outcome.{Outcome, value, refused, refusedAt, andThen, mapValue, afterCall}
@@ -24,7 +24,7 @@ use Rattle.week.specs.Answers.{weekAnswer, firstWeekYear, lastWeekYear, dayWith
 use Rattle.week.specs.declared.WeekDate.{WeekDate}
 use Rattle.instant.specs.Answers.{badInstant, badTime, firstBad, firstFall, dayAnswer, splitAnswer, joinAnswer, indexDaysAnswer}
 use Rattle.labels.specs.Digits.{fits}
-use Rattle.labels.specs.Written.{bytesWritten}
+use Rattle.refusal.specs.Written.{bytesWritten}
 use Rattle.labels.specs.Rfc3339.{decimals, dateShape, timeShape, fieldsLabel, instantLabel, readAnswer}
 use Rattle.labels.specs.Years.{firstLabelYear, lastLabelYear}
 use Rattle.labels.specs.IsoWeek.{weekDateLabel, weekLabel, weekShape, readWeekAnswer}
@@ -36,6 +36,8 @@ use Rattle.labels.specs.Cues.{cueBetween, cueOf, timingAnswer, cueLineAnswer}
 use Rattle.constants.specs.Least.{Found, at, none, leastBelow}
 use Rattle.constants.specs.Limits.{lastEnd, outsideLimits, endOutside, boundOutside}
 use Rattle.constants.specs.Answers.{difference, differenceAnswer, claimed, boundAnswer}
+use Rattle.sheet.specs.Answers as sheets
+use Rattle.sheet.specs.Report.{reportText}
 use Rattle.transport.specs.Wraps.{reached, millisecondsOf}
 use Rattle.transport.specs.Wraps as T
 use Rattle.transport.specs.Answers.{notFollowed, followAnswer, clockAfter, followAllAnswer}
@@ -44,7 +46,7 @@ use Rattle.transport.specs.declared.Clock.the-variants.{At}
 use Rattle.transport.specs.declared.Position.{Position}
 use Rattle.transport.proofs.Answered.{reached-inside}
 use Rattle.transport.proofs.Laws.{first-and-rest}
-use Rattle.player.specs.Returned.{returned, returnedCount, returnedFlag, returnedDone, returnedFound, returnedMilliseconds, clockOf, clockNumbers, clockAfterValue, clockAfterValues, done, Tells}
+use Rattle.player.specs.Returned.{returned, returnedCount, returnedFlag, returnedDone, returnedFound, returnedRecords, returnedMilliseconds, clockOf, clockNumbers, clockAfterValue, clockAfterValues, done, Tells}
 use Rattle.player.proofs.ClockPlace.{all-over, batch-place}
 
 -- what is told on either side of a test
@@ -254,6 +256,32 @@ unfolding boundAnswer
 bound-tells a b d m c k t bound =
     guarded returnedDone (outsideLimits a b d m c k t || boundOutside bound) _ _ (told refl)
     (claimed-tells (leastBelow (difference a b d m c k t) (natAbs bound)) (difference a b d m c k t (natAbs bound)))
+
+-- ---- sheets
+
+pub sheet-read-tells : (sheet : List ℕ) → Tells returnedRecords (sheets.readAnswer sheet)
+unfolding sheets.readAnswer
+sheet-read-tells sheet = guarded returnedRecords (sheets.noSheet sheet) _ _ (told refl) (told refl)
+
+pub sheet-record-tells : (sheet : List ℕ) (place : ℤ) → Tells returnedDone (sheets.recordAnswer sheet place)
+unfolding sheets.recordAnswer sheets.readAnswer
+sheet-record-tells sheet place =
+    then-tells (sheets.readAnswer sheet) (λ contents. sheets.recordInPlace sheet contents place)
+    (guarded returnedDone (sheets.noSheet sheet) _ _ (told refl) (told refl))
+    (λ contents. guarded returnedDone (ltZ place (pos 0) || leb (contents .records) (natAbs place)) _ _ (told refl) (told refl))
+
+pub sheet-check-tells : (sheet : List ℕ) (place : ℤ) → Tells returnedDone (sheets.checkAnswer sheet place)
+unfolding sheets.checkAnswer sheets.verdict
+sheet-check-tells sheet place =
+    then-tells (sheets.recordAnswer sheet place) sheets.verdict (sheet-record-tells sheet place) (λ claim. bound-tells _ _ _ _ _ _ _ _)
+
+pub sheet-write-tells : (note numbers buffer : List ℕ) → Tells returnedCount (bytesWritten (sheets.sheetText note numbers) buffer)
+unfolding sheets.sheetText
+sheet-write-tells note numbers buffer =
+    written-tells _ buffer (guarded returnedDone (sheets.unfit (length note) (length numbers)) _ _ (told refl) (told refl))
+
+pub sheet-report-tells : (sheet buffer : List ℕ) → Tells returnedCount (bytesWritten (value (reportText sheet)) buffer)
+sheet-report-tells sheet buffer = written-tells (value (reportText sheet)) buffer (told refl)
 
 -- ---- the transport clock
 

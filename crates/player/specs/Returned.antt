@@ -16,6 +16,8 @@ use Rattle.week.specs.declared.WeekDate.{WeekDate}
 use Rattle.instant.specs.declared.Fields.{Fields}
 use Rattle.labels.specs.declared.webvtt.Cue.{Cue}
 use Rattle.constants.specs.Least.{Found, at, none}
+use Rattle.sheet.specs.declared.Contents.{Contents}
+use Rattle.sheet.specs.declared.Claim.{Claim}
 use Rattle.transport.specs.Answers.{followAnswer}
 use Rattle.transport.specs.declared.Clock.{Clock}
 use Rattle.transport.specs.declared.Clock.the-variants.{Nothing, At}
@@ -59,6 +61,17 @@ fieldsNumbers f = f .year ∷ f .month ∷ f .day ∷ f .hour ∷ f .minute ∷ 
 
 abbrev pub cueNumbers : Cue → List ℤ
 cueNumbers c = c .start ∷ c .end ∷ []
+
+-- a sheet: the number of records is returned, and the length of the note goes to a place; and the eight numbers of a record
+abbrev pub returnedRecords : Outcome Contents → ℤ
+returnedRecords answer = returned (mapValue (λ c. pos (c .records)) answer)
+
+abbrev pub noteLength : Contents → ℤ
+noteLength c = pos (c .offset)
+
+abbrev pub recordNumbers : Claim → List ℤ
+recordNumbers r =
+    pos (r .a) ∷ pos (r .b) ∷ pos (r .d) ∷ pos (r .m) ∷ pos (r .c) ∷ pos (r .k) ∷ pos (r .t) ∷ pos (r .bound) ∷ []
 
 -- a transport clock is two numbers, `heard` and `position`: nothing has been heard where `heard` is 0, and `position` is then not
 -- looked at

@@ -23,27 +23,35 @@
 //     ovenquill_read_cue(line, cue)                                           0, and start and end
 //     ovenquill_first_difference(a, b, d, m, c, k, t, end)                    the least n, or `end`
 //     ovenquill_check_bound(a, b, d, m, c, k, t, bound, least)                0 accepted; a refusal 10 puts the least n in `least`
+//     ovenquill_sheet_read(sheet, note_length)                                the number of records, and the note's length
+//     ovenquill_sheet_record(sheet, place, record)                            0, and the eight numbers
+//     ovenquill_sheet_check(sheet, place, least)                              0 accepted; a refusal 10 puts the least n in `least`
+//     ovenquill_sheet_write(note, numbers, out)                               the bytes written
+//     ovenquill_sheet_report(sheet, out)                                      the bytes written
 //     ovenquill_follow(clock, value)                                          the milliseconds, and the clock goes on from there
 //     ovenquill_follow_all(clock, values)                                     how many were passed over, and the clock after them
 
 ghost use mathlib.Core.Path.{_≡_};
-ghost use Rattle.refusal.specs.Outcome.{afterCall};
+ghost use Rattle.refusal.specs.Outcome.{value, afterCall};
 ghost use Rattle.calendar.specs.Answers.{daysAnswer, civilAnswer, weekdayAnswer, leapAnswer, lastDayAnswer, dayOfYearAnswer, addDaysAnswer};
 ghost use Rattle.instant.specs.Answers.{dayAnswer, splitAnswer, joinAnswer, indexDaysAnswer, indexDays};
 ghost use Rattle.week.specs.Answers.{weekAnswer, weekDaysAnswer};
-ghost use Rattle.labels.specs.Written.{bytesWritten, writtenBuffer};
+ghost use Rattle.refusal.specs.Written.{bytesWritten, writtenBuffer};
 ghost use Rattle.labels.specs.Rfc3339.{instantLabel, readAnswer};
 ghost use Rattle.labels.specs.IsoWeek.{weekLabel, readWeekAnswer};
 ghost use Rattle.labels.specs.Webvtt.{positionLabel};
 ghost use Rattle.labels.specs.Timestamps.{positionAnswer};
 ghost use Rattle.labels.specs.Cues.{cueLineAnswer};
 ghost use Rattle.constants.specs.Answers.{differenceAnswer, boundAnswer};
+ghost use Rattle.sheet.specs.Answers as sheets;
+ghost use Rattle.sheet.specs.Report.{reportText};
 ghost use Rattle.transport.specs.Answers.{followAnswer, followAllAnswer};
 ghost use lib.IntN.{pos};
-ghost use Rattle.player.specs.Returned.{returned, returnedCount, returnedFlag, returnedDone, returnedFound, returnedMilliseconds, dateNumbers, weekNumbers, fieldsNumbers, cueNumbers, clockOf, clockAfterValue, clockAfterValues, afterRefusal};
+ghost use Rattle.player.specs.Returned.{returned, returnedCount, returnedFlag, returnedDone, returnedFound, returnedMilliseconds, returnedRecords, dateNumbers, weekNumbers, fieldsNumbers, cueNumbers, noteLength, recordNumbers, clockOf, clockAfterValue, clockAfterValues, afterRefusal};
 
 mod clocks;
 mod give;
+mod sheets;
 
 #[no_mangle]
 pub extern "C" fn ovenquill_days_from_civil(year: i64, month: i64, day: i64, days: &mut i64) -> i64
@@ -256,6 +264,46 @@ pub extern "C" fn ovenquill_check_bound(
     ensures least { λ r. ⌜ now (least .exit) ≡ afterRefusal (boundAnswer a b d m c k t bound) (now (least .entry)) ⌝ }
 {
     give::claim(constants::check_bound(a, b, d, m, c, k, t, bound), least)
+}
+
+#[no_mangle]
+pub extern "C" fn ovenquill_sheet_read(sheet: &[u8], note_length: &mut i64) -> i64
+    ensures answer { λ r. ⌜ r ≡ returnedRecords (sheets.readAnswer (now (sheet .entry))) ⌝ }
+    ensures place { λ r. ⌜ now («note_length» .exit) ≡ afterCall (sheets.readAnswer (now (sheet .entry))) noteLength (now («note_length» .entry)) ⌝ }
+{
+    sheets::contents(sheet::read(sheet), note_length)
+}
+
+#[no_mangle]
+pub extern "C" fn ovenquill_sheet_record(sheet: &[u8], place: i64, record: &mut [i64; 8]) -> i64
+    ensures answer { λ r. ⌜ r ≡ returnedDone (sheets.recordAnswer (now (sheet .entry)) place) ⌝ }
+    ensures numbers { λ r. ⌜ now («record» .exit) ≡ afterCall (sheets.recordAnswer (now (sheet .entry)) place) recordNumbers (now («record» .entry)) ⌝ }
+{
+    sheets::numbers(sheet::record(sheet, place), record)
+}
+
+#[no_mangle]
+pub extern "C" fn ovenquill_sheet_check(sheet: &[u8], place: i64, least: &mut i64) -> i64
+    ensures answer { λ r. ⌜ r ≡ returnedDone (sheets.checkAnswer (now (sheet .entry)) place) ⌝ }
+    ensures least { λ r. ⌜ now (least .exit) ≡ afterRefusal (sheets.checkAnswer (now (sheet .entry)) place) (now (least .entry)) ⌝ }
+{
+    give::claim(sheet::check_record(sheet, place), least)
+}
+
+#[no_mangle]
+pub extern "C" fn ovenquill_sheet_write(note: &[u8], numbers: &[u32], out: &mut [u8]) -> i64
+    ensures answer { λ r. ⌜ r ≡ returnedCount (bytesWritten (sheets.sheetText (now (note .entry)) (now (numbers .entry))) (now (out .entry))) ⌝ }
+    ensures buffer { λ r. ⌜ now (out .exit) ≡ writtenBuffer (sheets.sheetText (now (note .entry)) (now (numbers .entry))) (now (out .entry)) ⌝ }
+{
+    give::returned_bytes(sheet::write(note, numbers, out))
+}
+
+#[no_mangle]
+pub extern "C" fn ovenquill_sheet_report(sheet: &[u8], out: &mut [u8]) -> i64
+    ensures answer { λ r. ⌜ r ≡ returnedCount (bytesWritten (value (reportText (now (sheet .entry)))) (now (out .entry))) ⌝ }
+    ensures buffer { λ r. ⌜ now (out .exit) ≡ writtenBuffer (value (reportText (now (sheet .entry)))) (now (out .entry)) ⌝ }
+{
+    give::returned_bytes(sheet::report(sheet, out))
 }
 
 #[no_mangle]

@@ -3,9 +3,9 @@ use Prim.Native.Nat.{_≤_}
 use native.Mathlib.Omega.{arith}
 use Rattle.refusal.specs.Numbers.{refusalNumber}
 use Rattle.refusal.specs.declared.Refusal.{Refusal}
-use Rattle.refusal.specs.declared.Refusal.the-variants.{YearOutOfRange, MonthOutOfRange, DayOutOfRange, OutOfRange, TimeOutOfRange, PositionOutOfRange, BufferTooShort, MalformedLabel, ConstantOutOfLimits, DifferenceBelowBound, NoDifferenceUpToBound, UnequalLengths, MalformedTiming, ClockOutOfRange, OutOfOrder, WeekOutOfRange}
+use Rattle.refusal.specs.declared.Refusal.the-variants.{YearOutOfRange, MonthOutOfRange, DayOutOfRange, OutOfRange, TimeOutOfRange, PositionOutOfRange, BufferTooShort, MalformedLabel, ConstantOutOfLimits, DifferenceBelowBound, NoDifferenceUpToBound, UnequalLengths, MalformedTiming, ClockOutOfRange, OutOfOrder, WeekOutOfRange, MalformedSheet}
 
-pub number-le : (r : Refusal) → refusalNumber r ≤ 16
+pub number-le : (r : Refusal) → refusalNumber r ≤ 17
 number-le YearOutOfRange = omega arith
 number-le MonthOutOfRange = omega arith
 number-le DayOutOfRange = omega arith
@@ -22,3 +22,4 @@ number-le MalformedTiming = omega arith
 number-le ClockOutOfRange = omega arith
 number-le OutOfOrder = omega arith
 number-le WeekOutOfRange = omega arith
+number-le MalformedSheet = omega arith

@@ -1,7 +1,7 @@
 // The numbered refusals of document 01, "The numbered refusals", those that document 02 adds, and the answer of a number or a refusal
 // that the crates share.
 //
-//     number(refusal)        its number, 1 to 16
+//     number(refusal)        its number, 1 to 17
 
 ghost use mathlib.Core.Path.{_≡_};
 ghost use Rattle.refusal.specs.Numbers.{refusalNumber};
@@ -39,6 +39,8 @@ pub enum Refusal {
     OutOfOrder,
     // 16: week that its year does not have, or weekday outside 1..7
     WeekOutOfRange,
+    // 17: sheet of another form, or a record that it does not have
+    MalformedSheet,
 }
 
 pub enum NumberAnswer {
@@ -46,7 +48,13 @@ pub enum NumberAnswer {
     Refused(Refusal),
 }
 
-// The number of a refusal, 1 to 16.
+// What a writer into a lent buffer answers: the number of bytes written, or a refusal.
+pub enum WriteAnswer {
+    Written(usize),
+    Refused(Refusal),
+}
+
+// The number of a refusal, 1 to 17.
 pub fn number(refusal: Refusal) -> u64
     ensures { λ r. ⌜ r ≡ refusalNumber refusal ⌝ }
 {
@@ -67,5 +75,6 @@ pub fn number(refusal: Refusal) -> u64
         Refusal::ClockOutOfRange => 14,
         Refusal::OutOfOrder => 15,
         Refusal::WeekOutOfRange => 16,
+        Refusal::MalformedSheet => 17,
     }
 }

@@ -2,9 +2,9 @@
 
 use calendar::DateAnswer;
 use calendar::FlagAnswer;
-use labels::WriteAnswer;
 use refusal::NumberAnswer;
 use refusal::Refusal;
+use refusal::WriteAnswer;
 
 pub fn text(words: &[u8]) {
     io::write_all(libc::STDOUT_FILENO, words);

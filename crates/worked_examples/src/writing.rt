@@ -3,7 +3,7 @@
 use super::show::about;
 use super::show::text;
 use super::show::written_answer;
-use labels::WriteAnswer;
+use refusal::WriteAnswer;
 
 pub enum Writer {
     Instant,

@@ -3,10 +3,10 @@ use mathlib.Core.Path.{_≡_, refl, sym, ap, _∙_}
 use native.Mathlib.Numerals.{add-one}
 use native.Mathlib.Omega.{arith}
 use lib.ListN.{length, set, length-set}
-use Rattle.labels.specs.Words.{byteOf, bytesOf}
-use Rattle.labels.specs.Filled.{filled}
-use Rattle.labels.proofs.Words.{length-bytes}
-use Rattle.labels.proofs.Filled.{filled-length, filled-nothing, filled-byte}
+use Rattle.text.specs.Words.{byteOf, bytesOf}
+use Rattle.text.specs.Filled.{filled}
+use Rattle.text.proofs.Words.{length-bytes}
+use Rattle.text.proofs.Filled.{filled-length, filled-nothing, filled-byte}
 use Rattle.labels.proofs.buffer.store.Statement.{statement}
 use Rattle.labels.proofs.buffer.store.Tie as tie
 

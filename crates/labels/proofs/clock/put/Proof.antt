@@ -3,7 +3,7 @@ use mathlib.Core.Path.{ap, _∙_}
 use mathlib.Core.List.{[], _∷_, _++_}
 use native.Mathlib.Omega.{arith}
 use Rattle.labels.specs.Clock.{colon, point}
-use Rattle.labels.specs.Filled.{filled}
+use Rattle.text.specs.Filled.{filled}
 use Rattle.labels.proofs.DigitWords.{pairs-stored}
 use borrow.Author.Needs.{needs}
 use Rattle.labels.proofs.clock.put.Statement.{statement}

@@ -1,4 +1,4 @@
-use Rattle.labels.proofs.Words.{eight-word}
+use Rattle.text.proofs.Words.{eight-word}
 use borrow.Author.Needs.{needs}
 use Rattle.labels.proofs.digits.eight_bytes.Statement.{statement}
 use Rattle.labels.proofs.digits.eight_bytes.Tie as tie

@@ -1,6 +1,6 @@
 use Prim.Native.Nat.{_+_}
 use native.Mathlib.Omega.{arith}
-use Rattle.labels.proofs.Words.{four-word}
+use Rattle.text.proofs.Words.{four-word}
 use borrow.Author.Needs.{needs}
 use Rattle.labels.proofs.digits.four_bytes.Statement.{statement}
 use Rattle.labels.proofs.digits.four_bytes.Tie as tie

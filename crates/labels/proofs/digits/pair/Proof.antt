@@ -1,6 +1,6 @@
 use mathlib.Core.Path.{ap}
 use borrow.Author.Needs.{needs}
-use Rattle.labels.specs.Words.{byteOf}
+use Rattle.text.specs.Words.{byteOf}
 use Rattle.labels.proofs.digits.pair.Statement.{statement}
 use Rattle.labels.proofs.digits.pair.Tie as tie
 

@@ -6,7 +6,7 @@ use native.Mathlib.Omega.{arith}
 use lib.ListN.{length, length-map}
 use borrow.Author.Needs.{needs}
 use Rattle.labels.specs.Words.{roomOne}
-use Rattle.labels.proofs.Words.{Made, none-made, room, more-made, all-made}
+use Rattle.text.proofs.Words.{Made, none-made, room, more-made, all-made}
 use Rattle.labels.proofs.Rooms.{room-at}
 use Rattle.labels.proofs.digits.room_of.Statement.{statement}
 use Rattle.labels.proofs.digits.room_of.Tie as tie

@@ -2,7 +2,7 @@ use Prim.Native.Nat.{_-_}
 use mathlib.Core.Path.{refl}
 use native.Mathlib.Omega.{arith}
 use lib.ListN.{length}
-use Rattle.labels.proofs.Words.{Made, none-made, room, more-made, all-made}
+use Rattle.text.proofs.Words.{Made, none-made, room, more-made, all-made}
 use Rattle.labels.proofs.digits.word_of.Statement.{statement}
 use Rattle.labels.proofs.digits.word_of.Tie as tie
 

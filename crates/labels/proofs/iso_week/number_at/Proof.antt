@@ -2,7 +2,7 @@ use Prim.Native.Nat.{ℕ, _*_}
 use mathlib.Core.Path.{_≡_, sym, ap}
 use mathlib.Core.List.{List}
 use native.Mathlib.Omega.{arith}
-use Rattle.labels.specs.Words.{partOf}
+use Rattle.text.specs.Words.{partOf}
 use Rattle.labels.specs.WeekPieces.{pieces}
 use Rattle.labels.proofs.iso_week.number_at.Statement.{statement}
 use Rattle.labels.proofs.iso_week.number_at.Tie as tie

@@ -1,7 +1,7 @@
 use Prim.Native.Nat.{_*_}
 use mathlib.Core.Path.{sym, ap, _∙_}
 use native.Mathlib.Omega.{arith}
-use Rattle.labels.specs.Words.{partOf}
+use Rattle.text.specs.Words.{partOf}
 use Rattle.labels.specs.WeekPieces.{pieces}
 use Rattle.labels.proofs.DigitWords.{two-stored}
 use borrow.Author.Needs.{needs}

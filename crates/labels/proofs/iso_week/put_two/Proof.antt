@@ -2,9 +2,9 @@ use Prim.Native.Nat.{_+_, _-_, _*_, _/_, _≤_}
 use mathlib.Core.Path.{_≡_, refl, sym, ap, _∙_}
 use mathlib.Core.List.{[], _∷_}
 use native.Mathlib.Omega.{arith}
-use Rattle.labels.specs.Words.{byteOf}
+use Rattle.text.specs.Words.{byteOf}
 use Rattle.labels.specs.WeekPieces.{pieces}
-use Rattle.labels.specs.Filled.{filled}
+use Rattle.text.specs.Filled.{filled}
 use Rattle.labels.proofs.Pieces.{Placed, none-placed, more-placed, all-placed}
 use borrow.Author.Needs.{needs}
 use Rattle.labels.proofs.iso_week.put_two.Statement.{statement}

@@ -4,8 +4,9 @@ use native.Mathlib.Omega.{arith}
 use mir.Facts.{toZ-pos}
 use mir.Syntax.{w64}
 use Rattle.week.specs.Answers.{weekDaysAnswer}
-use Rattle.labels.specs.Words.{partOf, OneWord}
-use Rattle.labels.proofs.Words.{bytes}
+use Rattle.text.specs.Words.{partOf}
+use Rattle.labels.specs.Words.{OneWord}
+use Rattle.text.proofs.Words.{bytes}
 use Rattle.labels.proofs.ReadValues.{ValuesRead}
 use Rattle.labels.proofs.Reading.{two-read, two-wrong}
 use Rattle.labels.proofs.WeekTexts.{toWeekShape, fromWeekShape, wrong-week-length, wrong-week, week-read}

@@ -13,9 +13,9 @@ use Rattle.numbers.proofs.Machine.{answered}
 use Rattle.week.specs.declared.WeekDate.{WeekDate}
 use Rattle.labels.specs.Years.{firstLabelYear, lastLabelYear}
 use Rattle.labels.specs.IsoWeek.{weekText, weekDateLabel}
-use Rattle.labels.specs.Filled.{filled}
+use Rattle.text.specs.Filled.{filled}
 use Rattle.labels.proofs.Instants.{room-cast, room-below, room-abs}
-use Rattle.labels.proofs.Writing.{renamed, nothing-written, no-room, all-written}
+use Rattle.text.proofs.Writing.{renamed, nothing-written, no-room, all-written}
 use Rattle.labels.proofs.WeekLaws.{week-label-length}
 use borrow.Author.Needs.{needs}
 use Rattle.labels.proofs.iso_week.write_date.Statement.{statement}

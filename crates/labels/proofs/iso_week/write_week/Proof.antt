@@ -3,7 +3,7 @@ use mir.Facts.{toZ-ofZ}
 use Rattle.refusal.specs.Outcome.{value, andThen}
 use Rattle.week.specs.Answers.{weekOutcome, weekAnswer}
 use Rattle.labels.specs.IsoWeek.{weekDateLabel, weekLabel}
-use Rattle.labels.proofs.Writing.{renamed, nothing-written}
+use Rattle.text.proofs.Writing.{renamed, nothing-written}
 use Rattle.labels.proofs.WeekTexts.{week-room}
 use borrow.Author.Needs.{needs}
 use Rattle.labels.proofs.iso_week.write_week.Statement.{statement}

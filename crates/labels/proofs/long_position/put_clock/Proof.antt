@@ -2,9 +2,9 @@ use Prim.Native.Nat.{_+_}
 use mathlib.Core.Path.{refl, ap, _∙_}
 use mathlib.Core.List.{[], _∷_}
 use Rattle.labels.specs.Clock.{colon}
-use Rattle.labels.specs.Filled.{filled}
+use Rattle.text.specs.Filled.{filled}
 use Rattle.labels.specs.Webvtt.{clockOf}
-use Rattle.labels.proofs.Filled.{filled-then}
+use Rattle.text.proofs.Filled.{filled-then}
 use Rattle.labels.proofs.Positions.{clock-is}
 use borrow.Author.Needs.{needs}
 use Rattle.labels.proofs.long_position.put_clock.Statement.{statement}

@@ -6,7 +6,8 @@ use borrow.Author.Tests.{eq-eqb, ne-eqb}
 use lib.Dec.{eqb}
 use Prim.Native.Nat.{ℕ, _+_}
 use Rattle.numbers.proofs.Bools.{no-both}
-use Rattle.labels.specs.Digits.{isDigit, hasSmall, small, fitsOne}
+use Rattle.text.specs.Decimal.{isDigit}
+use Rattle.labels.specs.Digits.{hasSmall, small, fitsOne}
 use Rattle.labels.specs.Timings.{letter-is}
 use Rattle.labels.proofs.rfc3339.is_letter.Statement.{statement}
 use Rattle.labels.proofs.rfc3339.is_letter.Tie as tie

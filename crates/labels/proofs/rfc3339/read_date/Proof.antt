@@ -3,10 +3,11 @@ use lib.ListN.{length, take, drop}
 use Rattle.labels.specs.Parts.{readTime}
 use mathlib.Core.Path.{refl, sym, _∙_}
 use native.Mathlib.Omega.{arith}
-use Rattle.labels.proofs.Words.{bytes}
+use Rattle.text.proofs.Words.{bytes}
 use Rattle.labels.proofs.ReadValues.{ValuesRead}
 use Rattle.labels.proofs.Reading.{yearShape, fromYearShape, two-read, two-wrong, wrong-date, date-read}
-use Rattle.labels.specs.Words.{partOf, OneWord}
+use Rattle.text.specs.Words.{partOf}
+use Rattle.labels.specs.Words.{OneWord}
 use borrow.Author.Needs.{needs}
 use Rattle.labels.proofs.rfc3339.read_date.Statement.{statement}
 use Rattle.labels.proofs.rfc3339.read_date.Tie as tie

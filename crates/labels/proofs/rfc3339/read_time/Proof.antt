@@ -2,11 +2,12 @@ use Prim.Native.Nat.{_+_, _*_}
 use borrow.Author.Tests.{not-true, not-false}
 use mathlib.Core.Path.{refl, sym, _∙_}
 use native.Mathlib.Omega.{arith}
-use Rattle.labels.proofs.Words.{bytes}
+use Rattle.text.proofs.Words.{bytes}
 use Rattle.labels.proofs.ReadValues.{ValuesRead}
 use Rattle.labels.proofs.Shapes.{clockShape, fractionShape}
 use Rattle.labels.proofs.Reading.{two-read, two-wrong, wrong-first, wrong-last, wrong-digits, clock-read, fraction-read, time-read}
-use Rattle.labels.specs.Words.{partOf, OneWord}
+use Rattle.text.specs.Words.{partOf}
+use Rattle.labels.specs.Words.{OneWord}
 use borrow.Author.Needs.{needs}
 use Rattle.labels.proofs.rfc3339.read_time.Statement.{statement}
 use Rattle.labels.proofs.rfc3339.read_time.Tie as tie

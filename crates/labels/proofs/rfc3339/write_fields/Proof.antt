@@ -10,10 +10,10 @@ use Rattle.numbers.proofs.Machine.{answered}
 use Rattle.instant.specs.declared.Fields.{Fields}
 use Rattle.labels.specs.Years.{firstLabelYear, lastLabelYear}
 use Rattle.labels.specs.Rfc3339.{decimals, labelText, fieldsLabel}
-use Rattle.labels.specs.Filled.{filled}
+use Rattle.text.specs.Filled.{filled}
 use Rattle.labels.proofs.Instants.{room-cast, narrow-read, text-read}
 use Rattle.labels.proofs.Laws.{label-length}
-use Rattle.labels.proofs.Writing.{renamed, nothing-written, no-room, all-written}
+use Rattle.text.proofs.Writing.{renamed, nothing-written, no-room, all-written}
 use borrow.Author.Needs.{needs}
 use Rattle.labels.proofs.rfc3339.write_fields.Statement.{statement}
 use Rattle.labels.proofs.rfc3339.write_fields.Tie as tie

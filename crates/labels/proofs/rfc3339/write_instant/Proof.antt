@@ -3,7 +3,7 @@ use mir.Facts.{toZ-ofZ}
 use Rattle.refusal.specs.Outcome.{andThen}
 use Rattle.instant.specs.Answers.{fieldsOutcome, splitAnswer}
 use Rattle.labels.specs.Rfc3339.{fieldsLabel, instantLabel}
-use Rattle.labels.proofs.Writing.{renamed, nothing-written}
+use Rattle.text.proofs.Writing.{renamed, nothing-written}
 use Rattle.labels.proofs.Instants.{fields-narrow}
 use borrow.Author.Needs.{needs}
 use Rattle.labels.proofs.rfc3339.write_instant.Statement.{statement}

@@ -2,7 +2,7 @@ use Prim.Native.Nat.{ℕ, _+_, _*_}
 use mathlib.Core.Path.{_≡_, sym, ap, _∙_}
 use mathlib.Core.List.{List, [], _∷_}
 use native.Mathlib.Omega.{arith}
-use Rattle.labels.specs.Words.{partOf}
+use Rattle.text.specs.Words.{partOf}
 use Rattle.labels.specs.PositionPieces.{shortText}
 use borrow.Author.Needs.{needs}
 use Rattle.labels.proofs.short_position.last_byte.Statement.{statement}

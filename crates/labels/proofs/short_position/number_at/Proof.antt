@@ -2,8 +2,8 @@ use Prim.Native.Nat.{ℕ, _*_}
 use mathlib.Core.Path.{_≡_, sym, ap, _∙_}
 use mathlib.Core.List.{List}
 use native.Mathlib.Omega.{arith}
-use Rattle.labels.specs.Digits.{digits}
-use Rattle.labels.specs.Words.{partOf}
+use Rattle.text.specs.Decimal.{digits}
+use Rattle.text.specs.Words.{partOf}
 use Rattle.labels.specs.PositionPieces.{shortText}
 use borrow.Author.Needs.{needs}
 use Rattle.labels.proofs.short_position.number_at.Statement.{statement}

@@ -2,10 +2,10 @@ use Prim.Native.Nat.{_+_, _-_, _*_, _/_, _%_, _≤_}
 use mathlib.Core.Path.{_≡_, refl, sym, ap, ap₂, _∙_, subst}
 use mathlib.Core.List.{_++_}
 use native.Mathlib.Omega.{arith}
-use Rattle.labels.specs.Filled.{filled}
+use Rattle.text.specs.Filled.{filled}
 use Rattle.labels.specs.Webvtt.{perMinute}
 use Rattle.labels.specs.PositionPieces.{shortText}
-use Rattle.labels.proofs.Words.{part-two}
+use Rattle.text.proofs.Words.{part-two}
 use Rattle.labels.proofs.DigitWords.{two-stored}
 use Rattle.labels.proofs.Pieces.{Placed, none-placed, more-placed, all-placed}
 use Rattle.labels.proofs.Positions.{short-text}

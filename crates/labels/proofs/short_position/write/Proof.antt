@@ -1,6 +1,6 @@
 use native.Mathlib.Omega.{arith}
 use Rattle.labels.specs.Webvtt.{positionText}
-use Rattle.labels.proofs.Writing.{no-room, all-written}
+use Rattle.text.proofs.Writing.{no-room, all-written}
 use Rattle.labels.proofs.Positions.{short-length}
 use borrow.Author.Needs.{needs}
 use Rattle.labels.proofs.short_position.write.Statement.{statement}

@@ -3,7 +3,8 @@ use mathlib.Core.Path.{_≡_, refl, sym, ap, _∙_}
 use mathlib.Core.Bool.{cond}
 use native.Mathlib.Omega.{arith}
 use lib.ListN.{take}
-use Rattle.labels.specs.Stamps.{wrong, allDigits, limitedFrom}
+use Rattle.text.specs.Decimal.{allDigits}
+use Rattle.labels.specs.Stamps.{wrong, limitedFrom}
 use Rattle.labels.proofs.StampRead.{leading-more}
 use Rattle.labels.proofs.timestamp.leading_digits.Statement.{statement}
 use Rattle.labels.proofs.timestamp.leading_digits.Tie as tie

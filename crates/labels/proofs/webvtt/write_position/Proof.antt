@@ -6,7 +6,7 @@ use Rattle.numbers.specs.Range.{outside}
 use Rattle.numbers.proofs.Between.{natural-within, cast-within}
 use Rattle.numbers.proofs.Machine.{answered}
 use Rattle.labels.specs.Webvtt.{lastPosition}
-use Rattle.labels.proofs.Writing.{renamed, nothing-written}
+use Rattle.text.proofs.Writing.{renamed, nothing-written}
 use Rattle.labels.proofs.Positions.{lastShort, out-of-range, labelled, in-range, short-in-range, short-below, long-above}
 use borrow.Author.Needs.{needs}
 use Rattle.labels.proofs.webvtt.write_position.Statement.{statement}

@@ -4,7 +4,7 @@ use native.Mathlib.Omega.{arith}
 use mir.Facts.{toZ-pos}
 use mir.Syntax.{w64}
 use Rattle.numbers.proofs.Machine.{pos-fits}
-use Rattle.labels.specs.Written.{writeOutcome}
+use Rattle.refusal.specs.Written.{writeOutcome}
 use Rattle.player.specs.Returned.{returnedCount}
 use Rattle.player.proofs.Answered.{as-read}
 use Rattle.player.proofs.give.returned_bytes.Statement.{statement}

@@ -5,10 +5,10 @@ use mathlib.Core.Bool.{cond}
 use mathlib.Core.List.{List, _++_}
 use lib.Dec.{ltb}
 use lib.ListN.{length, drop}
 use Rattle.refusal.specs.Numbers.{refusalNumber}
 use Rattle.refusal.specs.Outcome.{Outcome, value, refused, andThen, mapValue, afterCall}
-use Rattle.labels.specs.declared.WriteAnswer.{WriteAnswer}
-use Rattle.labels.specs.declared.WriteAnswer.the-variants as W
+use Rattle.refusal.specs.declared.WriteAnswer.{WriteAnswer}
+use Rattle.refusal.specs.declared.WriteAnswer.the-variants as W
 
 -- what each case of an answer hands back
 abbrev pub writeOutcome : WriteAnswer → Outcome ℕ

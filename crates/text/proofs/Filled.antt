@@ -1,14 +1,17 @@
 -- A buffer that is filled piece by piece.
-use Prim.Native.Nat.{ℕ, suc, _+_, _-_, _≤_}
-use mathlib.Core.Path.{_≡_, refl, sym, ap, ap₂, _∙_}
+use Prim.Native.Nat.{ℕ, suc, _+_, _-_, _≤_, _<_}
+use mathlib.Core.Path.{_≡_, refl, sym, ap, ap₂, _∙_, subst}
+use mathlib.Core.Bool.{Bool, true, false, not}
 use mathlib.Core.List.{List, [], _∷_, _++_, append-assoc}
 use native.Mathlib.Nat.{zero-add}
 use native.Mathlib.Omega.{arith}
+use borrow.Author.Tests.{not-true, not-false, leb-true, leb-false, le-leb, lt-leb}
+use lib.Dec.{leb}
 use lib.ListN.{length, set, take, drop, length-append}
-use lib.Seq.{sets, length-sets, sets-eq, drop-drop, take-append-seam, drop-append-add}
-use Rattle.labels.specs.Words.{partOf}
-use Rattle.labels.specs.Filled.{filled, Begins}
-use Rattle.labels.proofs.Words.{part-length, part-two}
+use lib.Seq.{set-comm, sets, length-sets, sets-eq, drop-drop, take-append-seam, drop-append-add}
+use Rattle.text.specs.Words.{partOf}
+use Rattle.text.specs.Filled.{filled, Stored, Begins, hasRoom, placeBehind, placed}
+use Rattle.text.proofs.Words.{part-length, part-two}
 
 pub filled-length : (at : ℕ) (text buffer : List ℕ) → length (filled at text buffer) ≡ length buffer
 unfolding filled
@@ -48,6 +51,72 @@ filled-part text at count more {k} before {between} e h l n f =
 pub filled-byte : {k : ℕ} (at : ℕ) (a : List ℕ) (byte : ℕ) (buffer : List ℕ) → at + length a ≡ k → set (filled at a buffer) k byte ≡ filled at (a ++ byte ∷ []) buffer
 unfolding filled
 filled-byte at a byte buffer e = filled-more at a (byte ∷ []) buffer e
+
+-- a byte in front of a piece
+pub filled-after : (at : ℕ) (byte : ℕ) (a buffer : List ℕ) → set (filled (suc at) a buffer) at byte ≡ filled at (byte ∷ a) buffer
+unfolding filled
+filled-after at byte a buffer = go (suc at) a buffer (omega arith)
+  where
+    go : (k : ℕ) (a buffer : List ℕ) → at < k → set (sets buffer k a) at byte ≡ sets (set buffer at byte) k a
+    go k [] buffer h = refl
+    go k (x ∷ a) buffer h =
+        go (suc k) a (set buffer k x) (omega arith) ∙ ap (λ l. sets l (suc k) a) (set-comm buffer k at x byte (λ e. omega (arith, e)))
+
+-- whether a piece has room, without a sum
+pub room-left : (length at count : ℕ) → at ≤ length → leb count (length - at) ≡ leb (at + count) length
+room-left length at count h = go (leb count (length - at)) refl
+  where
+    go : (room : Bool) → leb count (length - at) ≡ room → room ≡ leb (at + count) length
+    go true e = sym (le-leb (at + count) length (omega (arith, leb-true count (length - at) e)))
+    go false e = sym (lt-leb (at + count) length (omega (arith, leb-false count (length - at) e)))
+
+-- what putting a piece answers and leaves, where there is room for it and where there is not
+abbrev pub Puts : (at : ℕ) (text before after : List ℕ) (r : ℕ) → Type 0
+Puts at text before after r = (r ≡ placeBehind at text before) × (after ≡ placed at text before)
+
+module _ (at : ℕ) (text before : List ℕ) {count : ℕ} (same : count ≡ length text) {room : Bool} (has : room ≡ leb (at + count) (length before)) where
+  room-is : room ≡ hasRoom at text before
+  room-is = has ∙ ap (λ k. leb (at + k) (length before)) same
+
+  pub room-le : not room ≡ false → at + count ≤ length before
+  room-le e = leb-true (at + count) (length before) (sym has ∙ not-false room e)
+
+  pub not-put : not room ≡ true → Puts at text before before at
+  not-put e = let h = sym room-is ∙ not-true room e in (rw h, rw h)
+
+  pub all-put : {after : List ℕ} → not room ≡ false → after ≡ filled at text before → Puts at text before after (at + count)
+  all-put e f = let h = sym room-is ∙ not-false room e in (rw h (ap (λ k. at + k) same), rw h f)
+
+-- a piece that is known to have room, put into a buffer
+pub put-stored :
+    (at : ℕ) (text before : List ℕ) {after : List ℕ} {r : ℕ} → at + length text ≤ length before → Puts at text before after r → Stored at text before after r
+put-stored at text before h p = let e = le-leb (at + length text) (length before) h in record { end-is = rw e at (p .0); is-filled = rw e at (p .1) }
+
+pub nothing-stored : (at : ℕ) (before : List ℕ) → Stored at [] before before at
+nothing-stored at before = record { end-is = omega arith; is-filled = filled-nothing at before }
+
+-- a piece stored behind a piece
+pub stored-then :
+    {at k r : ℕ} {a b before between after : List ℕ} → Stored at a before between k → Stored k b between after r → Stored at (a ++ b) before after r
+stored-then {at} {k} {a = a} {b} {before} s t =
+    record {
+      end-is = t .end-is ∙ omega (arith, s .end-is, length-append a b);
+      is-filled = filled-then at a b before (s .is-filled) (sym (s .end-is)) (t .is-filled);
+    }
+
+pub stored-length : {at r : ℕ} {text before after : List ℕ} → Stored at text before after r → length after ≡ length before
+stored-length {at} {text = text} {before} s = ap length (s .is-filled) ∙ filled-length at text before
+
+-- a piece put behind a piece, where both have room
+pub put-then :
+    (at : ℕ) {k r : ℕ} (a b : List ℕ) {before between after : List ℕ} → Stored at a before between k → at + length (a ++ b) ≤ length before →
+    Puts k b between after r → Stored at (a ++ b) before after r
+put-then at {k} a b {between = between} s h p =
+    stored-then s (put-stored k b between (omega (arith, s .end-is, length-append a b, stored-length s)) p)
+
+-- by another name
+pub stored-as : {at r : ℕ} {a b before after : List ℕ} → a ≡ b → Stored at a before after r → Stored at b before after r
+stored-as {at} {r} {before = before} {after} e = subst (λ text. Stored at text before after r) e
 
 -- the front of a buffer
 pub filled-front : (text buffer : List ℕ) → length text ≤ length buffer → filled 0 text buffer ≡ text ++ drop (length text) buffer

@@ -1,13 +1,17 @@
 -- What a writer answers, and what its buffer holds then.
 use Prim.Native.Nat.{ℕ, _≤_, _<_}
 use mathlib.Core.Path.{_≡_, refl, ap, _∙_, subst}
+use mathlib.Core.Bool.{Bool, true, false, cond}
 use mathlib.Core.List.{List}
-use borrow.Author.Tests.{lt-ltb, le-ltb}
+use native.Mathlib.Omega.{arith}
+use borrow.Author.Tests.{ltb-false, lt-ltb, le-ltb}
+use lib.Dec.{ltb}
 use lib.ListN.{length}
-use Rattle.refusal.specs.Outcome.{Outcome, value, refused}
-use Rattle.labels.specs.Written.{bytesWritten, writtenBuffer}
-use Rattle.labels.specs.Filled.{filled}
-use Rattle.labels.proofs.Filled.{filled-front}
+use Rattle.refusal.specs.Outcome.{Outcome, value, refused, refusedAt, mapValue}
+use Rattle.refusal.proofs.Outcomes.{clash}
+use Rattle.refusal.specs.Written.{bytesWritten, writtenBuffer}
+use Rattle.text.specs.Filled.{filled, Stored}
+use Rattle.text.proofs.Filled.{filled-front}
 
 abbrev pub Writes : Outcome (List ℕ) → (before after : List ℕ) → Outcome ℕ → Type 0
 Writes o before after r = (r ≡ bytesWritten o before) × (after ≡ writtenBuffer o before)
@@ -28,3 +32,19 @@ pub all-written :
     (label before : List ℕ) {after : List ℕ} {n : ℕ} → length label ≤ length before → n ≡ length label → after ≡ filled 0 label before →
     Writes (value label) before after (value n)
 all-written label before h e f = let t = le-ltb (length before) (length label) h in (rw t (ap value e), rw t (f ∙ filled-front label before h))
+
+pub stored-written :
+    {label before after : List ℕ} {n : ℕ} → Stored 0 label before after n → length label ≤ length before → Writes (value label) before after (value n)
+stored-written {label} {before} s h = all-written label before h (omega (arith, s .end-is)) (s .is-filled)
+
+-- the bytes that are written are not more than there are
+pub bytes-within : (label : Outcome (List ℕ)) (buffer : List ℕ) (n : ℕ) → bytesWritten label buffer ≡ value n → n ≤ length buffer
+bytes-within (value label) buffer n e = go (ltb (length buffer) (length label)) refl e
+  where
+    go :
+        (short : Bool) → ltb (length buffer) (length label) ≡ short →
+        mapValue length (cond short (refused 7) (value label)) ≡ value n → n ≤ length buffer
+    go true h e = clash (cc)
+    go false h e = let same : length label ≡ n = cc in omega (arith, ltb-false (length buffer) (length label) h)
+bytes-within (refused number) buffer n e = clash (cc)
+bytes-within (refusedAt number place) buffer n e = clash (cc)

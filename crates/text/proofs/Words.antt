@@ -10,12 +10,7 @@ use lib.Seq.{take-suc, take-length, take-add, drop-cons, drop-drop, drop-length,
 use lib.Pow.{shr-shr}
 use mir.Syntax.{w8}
 use mir.Val.{Fits}
-use Rattle.labels.specs.Words.{word, byteOf, bytesOf, partOf}
-
--- no number of a list is above a limit
-abbrev pub AllLe : (limit : ℕ) → List ℕ → Type 0
-AllLe limit [] = Unit {0}
-AllLe limit (n ∷ ns) = (n ≤ limit) × AllLe limit ns
+use Rattle.text.specs.Words.{word, byteOf, bytesOf, partOf, AllLe}
 
 pub bytes : (l : List ℕ) → ((i : ℕ) → Fits w8 (getD l i 0)) → AllLe 255 l
 bytes [] h = tt

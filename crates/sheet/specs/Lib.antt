@@ -1,0 +1,3 @@
+pub mod Sheet
+pub mod Answers
+pub mod Report
