@@ -235,6 +235,7 @@ def damaged_sheets(numbers, claims):
                 yield with_trailer(sheet, *right[:place], other, *right[place + 1:])
         for cut in (1, 2, 4, 12, 31, 32, 33, 44):
             yield from (sheet[cut:], sheet[:-cut], sheet + bytes(cut), bytes(cut) + sheet, sheet + sheet[-cut:])
+        yield from (sheet + b"\n", sheet + b"\r\n", b"\n" + sheet)
         # records in the note, and bytes of the note that are taken for records
         for moved in (1, 2, -1, -2):
             yield with_trailer(sheet, note_length + 32 * moved, count - moved, len(sheet))
