@@ -374,7 +374,6 @@ static void check_far_claims(int64_t rounds)
         int64_t beside;
         for (beside = power - 1; beside <= power + 1; beside++) {
             const struct far_claim claim = far_claim(31, 1, WORDS - beside);
-            same("a far claim's least difference", beside, claim.first, beside);
             if (!outside(OVENQUILL_C_MIN, OVENQUILL_C_MAX, claim.q.c))
                 know_far_claim(claim);
         }
@@ -444,7 +443,7 @@ static void try_length(size_t length, size_t records)
     const int64_t first = (int64_t)length - TRAILER - RECORD * (int64_t)records;
     const int is_sheet = first >= 0 && length <= LONGEST && records <= MOST;
     if (first >= 0)
-        same("a sheet's length", (int64_t)length, (int64_t)make_sheet((size_t)first, records), (int64_t)length);
+        make_sheet((size_t)first, records);
     else
         put_trailer(made, length, first, (int64_t)records, (int64_t)length);
     know_records("a sheet by its length", made, length, is_sheet ? (int64_t)records : REFUSED);
