@@ -1,5 +1,5 @@
-# Ovenquill: `make` builds the archive and the C examples, `make demo` runs these, `make test` runs every test but the proofs' own
-# gate (`rt ci`), `make bench` prints the tables of ratios, `make install PREFIX=..` installs for C and C++.
+# Ovenquill: `make` builds the archive, the program check_sheet and the C examples, `make demo` runs these, `make test` runs every
+# test but the proofs' own gate (`rt ci`), `make bench` prints the tables of ratios, `make install PREFIX=..` installs for C and C++.
 
 PREFIX ?= /usr/local
 CC ?= cc
@@ -7,16 +7,18 @@ CXX ?= c++
 CFLAGS ?= -O2 -Wall -Wextra -Wconversion -pedantic -Werror
 
 LIB := build/lib/libovenquill.a
-EXAMPLES := build/player build/check_claim
+CHECK_SHEET := build/check_sheet
+EXAMPLES := build/player build/check_claim build/write_sheet
 RATTLE := crates.txt $(shell find crates -name '*.rt' -o -name '*.antt')
 
 # The version stands in the header, its three numbers a line each.
 VERSION := $(subst $() ,.,$(strip $(shell sed -n 's/^.define OVENQUILL_VERSION_[A-Z]* //p' include/ovenquill.h)))
 
 .PHONY: all demo test bench install clean
-.PHONY: test-dates test-edits test-declarations test-c test-labels test-weeks test-stack test-examples test-install test-rust test-readme
+.PHONY: test-dates test-edits test-declarations test-c test-labels test-weeks test-sheets test-stack test-examples test-install
+.PHONY: test-rust test-readme
 
-all: $(LIB) $(EXAMPLES)
+all: $(LIB) $(CHECK_SHEET) $(EXAMPLES)
 
 # The archive: proved first, and only then built.
 $(LIB): $(RATTLE)
@@ -24,14 +26,21 @@ $(LIB): $(RATTLE)
 	mkdir -p build/lib
 	cp target/staticlib/libplayer.a $@
 
+# The program, proved and built after the archive: what both have is proved once, and never by two at a time.
+$(CHECK_SHEET): $(RATTLE) | $(LIB)
+	rt check check_sheet
+	cp target/bin/check_sheet $@
+
 build/%: examples/%.c include/ovenquill.h $(LIB)
 	$(CC) $(CFLAGS) -std=c99 -Iinclude $< $(LIB) -o $@
 
-demo: $(EXAMPLES)
+demo: $(EXAMPLES) $(CHECK_SHEET)
 	printf '%s\n' 1683729000000 -1 0 951782400000 -2208988800000 | build/player
 	build/check_claim 1 0 10 26 0 8 0 69
+	printf '%s\n' '1 0 10 26 0 8 0 69' '1 0 10 26 0 8 0 100' | build/write_sheet | $(CHECK_SHEET)
 
-test: test-dates test-edits test-declarations test-c test-labels test-weeks test-stack test-examples test-install test-rust test-readme
+test: test-dates test-edits test-declarations test-c test-labels test-weeks test-sheets test-stack test-examples test-install
+test: test-rust test-readme
 
 # The programs that print what the archive answers, for a test to compare.
 build/tests/%: tests/c/%.c include/ovenquill.h $(LIB)
@@ -69,13 +78,17 @@ test-labels: $(LIB)
 test-weeks: build/tests/all_weeks
 	tests/test_weeks.py build/tests/all_weeks
 
+# The archive's calls on sheets, and the program, against a reader, a writer and a checker in Python.
+test-sheets: build/tests/answer_sheets $(CHECK_SHEET)
+	tests/test_sheets.py build/tests/answer_sheets $(CHECK_SHEET)
+
 test-stack: $(LIB)
 	tests/test_stack.py $(LIB)
 
-test-examples: $(EXAMPLES)
+test-examples: $(EXAMPLES) $(CHECK_SHEET)
 	tests/examples/run build
 
-test-install: $(LIB)
+test-install: $(LIB) $(CHECK_SHEET)
 	tests/install/run
 
 test-readme: $(LIB)
@@ -119,12 +132,13 @@ bench: $(ALIGNED) $(CHRONO) $(LENGTHS)
 # A relative PREFIX is one in this folder. One with a blank in it is kept, which $(abspath ..) would not do.
 INSTALLED := $(if $(PREFIX),$(if $(filter /%,$(firstword $(PREFIX))),,$(CURDIR)/))$(PREFIX)
 
-install: $(LIB)
-	install -d '$(DESTDIR)$(INSTALLED)/lib/pkgconfig' '$(DESTDIR)$(INSTALLED)/include'
+install: $(LIB) $(CHECK_SHEET)
+	install -d '$(DESTDIR)$(INSTALLED)/bin' '$(DESTDIR)$(INSTALLED)/lib/pkgconfig' '$(DESTDIR)$(INSTALLED)/include'
+	install -m 755 $(CHECK_SHEET) '$(DESTDIR)$(INSTALLED)/bin/'
 	install -m 644 $(LIB) '$(DESTDIR)$(INSTALLED)/lib/'
 	install -m 644 include/ovenquill.h '$(DESTDIR)$(INSTALLED)/include/'
 	printf '%s\n' 'prefix=$(INSTALLED)' '' 'Name: ovenquill' \
-	  'Description: The Gregorian calendar, week dates, labels of instants, week dates and positions, cue lines, a checker of constants, and a follower of the transport clock, proved right' \
+	  'Description: The Gregorian calendar, week dates, labels of instants, week dates and positions, cue lines, a checker of constants, sheets of claims, and a follower of the transport clock, proved right' \
 	  'Version: $(VERSION)' 'Libs: -L$${prefix}/lib -lovenquill' 'Cflags: -I$${prefix}/include' \
 	  > '$(DESTDIR)$(INSTALLED)/lib/pkgconfig/ovenquill.pc'
 

@@ -1,7 +1,7 @@
 /*
  * Ovenquill: the proleptic Gregorian calendar, ISO 8601 week dates, labels of instants, of week dates and of positions (WebVTT
- * timestamps), cue lines, a checker of multiply-and-shift constants, and a follower of the 33-bit transport clock, proved
- * right.
+ * timestamps), cue lines, a checker of multiply-and-shift constants, sheets of claims about them, and a follower of the 33-bit
+ * transport clock, proved right.
  *
  * For C99, C++11 and later ones. Link with libovenquill.a; after `make install`, `pkg-config --cflags --libs ovenquill` says
  * how.
@@ -16,8 +16,8 @@
  * Every call returns 0 or more where it is done, and below 0 where it is refused: the refusal's number negated, which has a
  * macro below. The refusals of a call are listed in the order in which they are looked for; the first whose cause holds is
  * answered. Three refusals hand back more than their number: those about an instant of an index write where it stands to
- * `place`, and a claim with a difference below its bound writes the least such input to `least`. After every other answer of
- * these calls `place` and `least` are unchanged. Nothing else that was lent to a refused call is changed.
+ * `place`, and a claim with a difference below its bound, by itself or in a sheet, writes the least such input to `least`. After
+ * every other answer of these calls `place` and `least` are unchanged. Nothing else that was lent to a refused call is changed.
  *
  * What is asked of the pointers that are handed in:
  *   - A pointer with a length points to that many elements. It may be null only where the length is 0.
@@ -39,7 +39,7 @@ extern "C" {
 
 /* The version of this header, in numbers and as a string. */
 #define OVENQUILL_VERSION_MAJOR 0
-#define OVENQUILL_VERSION_MINOR 8
+#define OVENQUILL_VERSION_MINOR 9
 #define OVENQUILL_VERSION_PATCH 0
 #define OVENQUILL_VERSION OVENQUILL_DOTTED_(OVENQUILL_VERSION_MAJOR, OVENQUILL_VERSION_MINOR, OVENQUILL_VERSION_PATCH)
 #define OVENQUILL_DOTTED_(major, minor, patch) OVENQUILL_STRING_(major.minor.patch)
@@ -148,6 +148,17 @@ extern "C" {
 #define OVENQUILL_POSITION_LABEL_MAX_BYTES 15
 
 /*
+ * Sheets: the numbers and the bytes of a record, the bytes of the trailer, the most records and the most bytes of a sheet, and
+ * the most bytes of its report.
+ */
+#define OVENQUILL_SHEET_RECORD_NUMBERS 8
+#define OVENQUILL_SHEET_RECORD_BYTES 32
+#define OVENQUILL_SHEET_TRAILER_BYTES 12
+#define OVENQUILL_SHEET_MAX_RECORDS 1024
+#define OVENQUILL_SHEET_MAX_BYTES 65536
+#define OVENQUILL_SHEET_REPORT_MAX_BYTES 18346
+
+/*
  * Weekdays, what ovenquill_weekday answers and week dates have: 1 Monday to 7 Sunday, as ISO 8601 numbers them. A table that
  * is indexed by them has eight elements. They are not those of tm_wday in <time.h>, which are these modulo 7.
  */
@@ -176,6 +187,7 @@ extern "C" {
 #define OVENQUILL_CLOCK_OUT_OF_RANGE (-14)
 #define OVENQUILL_OUT_OF_ORDER (-15)
 #define OVENQUILL_WEEK_OUT_OF_RANGE (-16)
+#define OVENQUILL_MALFORMED_SHEET (-17)
 
 /* A refusal in words, by what a call answered. Any number may be handed in; the text is never null and is not to be freed. */
 static inline const char *ovenquill_refusal_text(int64_t answer)
@@ -224,6 +236,8 @@ static inline const char *ovenquill_refusal_text(int64_t answer)
     case OVENQUILL_WEEK_OUT_OF_RANGE:
         return "week that its year does not have, or weekday outside "
                OVENQUILL_RANGE_TEXT_(OVENQUILL_MONDAY, OVENQUILL_SUNDAY);
+    case OVENQUILL_MALFORMED_SHEET:
+        return "sheet of another form, or a record that it does not have";
     default:
         return answer < 0 ? "unknown refusal" : "not refused";
     }
@@ -268,6 +282,21 @@ typedef struct ovenquill_cue {
     int64_t start;
     int64_t end;
 } ovenquill_cue;
+
+/*
+ * A record of a sheet: the numbers of a claim, as ovenquill_check_bound takes them. Each is 0 to 4294967295, and may be outside
+ * its limits in a claim.
+ */
+typedef struct ovenquill_record {
+    int64_t a;
+    int64_t b;
+    int64_t d;
+    int64_t m;
+    int64_t c;
+    int64_t k;
+    int64_t t;
+    int64_t bound;
+} ovenquill_record;
 
 /*
  * A transport clock that is followed. `heard` is 0 where nothing has been heard yet, and any other number where something has;
@@ -557,6 +586,93 @@ int64_t ovenquill_first_difference(int64_t a, int64_t b, int64_t d, int64_t m, i
  */
 int64_t ovenquill_check_bound(int64_t a, int64_t b, int64_t d, int64_t m, int64_t c, int64_t k, int64_t t, int64_t bound,
                               int64_t *least);
+
+/*
+ * Sheets: claims by file. A sheet is bytes, three parts one behind the other without a gap:
+ *
+ *     the note      any bytes, as many as there are before the records, also none
+ *     the records   OVENQUILL_SHEET_RECORD_BYTES bytes each: the numbers a, b, d, m, c, k, t and bound of a claim
+ *     the trailer   OVENQUILL_SHEET_TRAILER_BYTES bytes, the last ones: three numbers, the offset of the first record from the
+ *                   front, which is the length of the note, the number of records, and the length of the whole sheet
+ *
+ * Every number is an unsigned one of 32 bits, in four bytes with the lowest first (little-endian), wherever it begins: nothing
+ * is asked of the offset but that the records run from there up to the trailer. A sheet has at most
+ * OVENQUILL_SHEET_MAX_RECORDS records, and may have none, and at most OVENQUILL_SHEET_MAX_BYTES bytes. The place of a record is
+ * counted from 0.
+ *
+ *     const uint32_t numbers[] = {1, 0, 10, 26, 0, 8, 0, 69, 1, 0, 10, 26, 0, 8, 0, 100};
+ *     uint8_t sheet[OVENQUILL_SHEET_MAX_BYTES], text[OVENQUILL_SHEET_REPORT_MAX_BYTES];
+ *     int64_t note_length, least;
+ *     ovenquill_sheet_write((const uint8_t *)"tenths", 6, numbers, 16, sheet, sizeof sheet)   answers 82, the bytes written
+ *     ovenquill_sheet_read(sheet, 82, &note_length)          answers 2, the number of records; note_length is 6
+ *     ovenquill_sheet_check(sheet, 82, 0, &least)            answers 0: the claim is accepted
+ *     ovenquill_sheet_check(sheet, 82, 1, &least)            answers OVENQUILL_DIFFERENCE_BELOW_BOUND; least is 69
+ *     ovenquill_sheet_check(sheet, 82, 2, &least)            answers OVENQUILL_MALFORMED_SHEET: there is no third record
+ *     ovenquill_sheet_report(sheet, 82, text, sizeof text)   answers 19; the text is "0 accepted\n1 10 69\n"
+ */
+
+/*
+ * Reads a sheet. Answers the number of its records, 0 to OVENQUILL_SHEET_MAX_RECORDS, and writes the length of its note, which
+ * is where its first record begins, to `note_length`. The `length` bytes are the sheet and nothing else. What it reads is what
+ * ovenquill_sheet_write writes for that note and the numbers of those records, byte for byte. The time does not grow with
+ * `length`.
+ *
+ * Refusal, after which `note_length` is unchanged:
+ *   OVENQUILL_MALFORMED_SHEET   length below OVENQUILL_SHEET_TRAILER_BYTES or above OVENQUILL_SHEET_MAX_BYTES, a trailer whose
+ *                               third number is not length, more than OVENQUILL_SHEET_MAX_RECORDS records, or records that do
+ *                               not run from their offset up to the trailer without gap
+ */
+int64_t ovenquill_sheet_read(const uint8_t *sheet, size_t length, int64_t *note_length);
+
+/*
+ * The record of a sheet at a place. Writes its numbers to `record` and answers 0. They are handed over as they are: what they
+ * claim is for ovenquill_sheet_check to judge.
+ *
+ * Refusal, after which `record` is unchanged:
+ *   OVENQUILL_MALFORMED_SHEET   no sheet, as ovenquill_sheet_read refuses it, or place below 0 or not below the number of records
+ */
+int64_t ovenquill_sheet_record(const uint8_t *sheet, size_t length, int64_t place, ovenquill_record *record);
+
+/*
+ * The claim of a sheet's record at a place. Answers 0 where it is accepted; `least` is then unchanged. The verdict is
+ * ovenquill_check_bound's own: what that call answers to the eight numbers of the record, and writes to `least`.
+ *
+ * Refusals:
+ *   OVENQUILL_MALFORMED_SHEET             no such record, as ovenquill_sheet_record refuses it; `least` is unchanged
+ *   OVENQUILL_CONSTANT_OUT_OF_LIMITS      a number of the record outside its limits in a claim; `least` is unchanged
+ *   OVENQUILL_DIFFERENCE_BELOW_BOUND      a difference below bound; the least n with one is written to `least`
+ *   OVENQUILL_NO_DIFFERENCE_UP_TO_BOUND   no difference at any n up to bound, bound included; `least` is unchanged
+ */
+int64_t ovenquill_sheet_check(const uint8_t *sheet, size_t length, int64_t place, int64_t *least);
+
+/*
+ * Writes the sheet of a note and of records to the front of `out`, and answers the bytes written: note_length, 4 for each
+ * number, and OVENQUILL_SHEET_TRAILER_BYTES. The bytes after them are unchanged. `numbers` has the records one behind the
+ * other, OVENQUILL_SHEET_RECORD_NUMBERS numbers to a record, and `count` is the count of numbers. No claim is checked: any
+ * numbers are written. What is written is read as the same note and the same records. The time is linear in the bytes written.
+ *
+ * Refusals, after which no byte of `out` is changed:
+ *   OVENQUILL_MALFORMED_SHEET    count no multiple of OVENQUILL_SHEET_RECORD_NUMBERS, so that a part of a record is left, more
+ *                                than OVENQUILL_SHEET_MAX_RECORDS records, or more than OVENQUILL_SHEET_MAX_BYTES bytes
+ *   OVENQUILL_BUFFER_TOO_SHORT   length below the bytes of this sheet
+ */
+int64_t ovenquill_sheet_write(const uint8_t *note, size_t note_length, const uint32_t *numbers, size_t count, uint8_t *out,
+                              size_t length);
+
+/*
+ * Writes the verdicts on a sheet as text to the front of `out`, and answers the bytes written. There is a line for each record
+ * in order: its place, a space, and `accepted`, `9`, `10` with a space and the least n, or `11`, by the number that
+ * ovenquill_sheet_check answers there. A sheet without records has no line, and the answer is 0. Bytes that are no sheet have
+ * the one line `17`, which is text and no refusal. Every line ends with a newline; no zero byte is written after the last one,
+ * and the bytes after it are unchanged. The time is that of checking the claims.
+ *
+ * OVENQUILL_SHEET_REPORT_MAX_BYTES bytes always suffice. The program check_sheet, which `make install` installs too, prints
+ * this text for the sheet on its standard input.
+ *
+ * Refusal, after which no byte of `out` is changed:
+ *   OVENQUILL_BUFFER_TOO_SHORT   out_length below the bytes of this text
+ */
+int64_t ovenquill_sheet_report(const uint8_t *sheet, size_t length, uint8_t *out, size_t out_length);
 
 /*
  * The clock of a transport stream counts 90,000 ticks in a second and is carried in 33 bits, as the base of a program clock

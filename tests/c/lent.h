@@ -51,4 +51,18 @@ static inline void hold(const char *what, int64_t input, void *got, void *right,
         hold(#call, input, lent, right, sizeof *lent);  \
     } while (0)
 
+/*
+ * Blocks that hold nothing yet, as C's callers hand them in: valgrind sees whether a call's answer depends on one, and whether
+ * the call writes the bytes at its front that it must. `lent` is a block of `count` elements of `type`, `right` the plain call's.
+ */
+#define SAME_WITH_UNSET(type, plain_type, count, bytes_written, call, plain_call)  \
+    do {                                                                           \
+        type *lent = (type *)malloc((count) * sizeof *lent);                       \
+        plain_type *right = (plain_type *)lend((count) * sizeof *lent);            \
+        same("unset " #call, 0, call, plain_call);                                 \
+        hold("unset " #call, 0, lent, right, bytes_written);                       \
+    } while (0)
+#define DONE_WITH_UNSET(type, call, plain_call) SAME_WITH_UNSET(type, int64_t, 1, sizeof(type), call, plain_call)
+#define REFUSED_WITH_UNSET(type, call, plain_call) SAME_WITH_UNSET(type, int64_t, 1, 0, call, plain_call)
+
 #endif

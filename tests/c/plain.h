@@ -1,10 +1,10 @@
 /*
- * Document 01 and change requests One and Three to Eight in plain C, written from their text and sharing nothing with the
+ * Document 01 and change requests One and Three to Nine in plain C, written from their text and sharing nothing with the
  * library: years are counted one by one, weeks by their Thursdays, the day of a week date is searched for, labels go by
  * snprintf, the readers of instants and week dates go byte by byte, those of timestamps and cue lines take one part after the
- * other, the constants go by trying every n, and a step of the transport clock by trying three. Each call here has the answer, and
- * leaves in what it is lent the bytes, that the library's call of the same name must have and leave: a date and a week date are
- * three numbers, fields are seven, a cue and a clock are two.
+ * other, the constants go by trying every n, a sheet by trying every number of records, and a step of the transport clock by trying
+ * three. Each call here has the answer, and leaves in what it is lent the bytes, that the library's call of the same name must have
+ * and leave: a date and a week date are three numbers, fields are seven, a cue and a clock are two, a record is eight.
  */
 #ifndef PLAIN_H
 #define PLAIN_H
@@ -46,7 +46,7 @@ static const struct constants paper_most = {1023, 1023, 1048575, 4294967295LL, 4
 
 #define PAPER_END_MAX 4294967295LL
 #define PAPER_BOUND_MAX 4294967294LL
-#define PAPER_LAST_REFUSAL 16
+#define PAPER_LAST_REFUSAL 17
 
 /* Change request Five's, in ticks: values are below the wrap, and steps go from the least to before the end. */
 #define PAPER_CLOCK_WRAP 8589934592LL
@@ -69,6 +69,11 @@ static const struct constants paper_most = {1023, 1023, 1048575, 4294967295LL, 4
 #define PAPER_LAST_LABEL_INSTANT ((PAPER_LAST_LABEL_DAY + 1) * PAPER_DAY - 1)
 #define PAPER_WEEK_LABEL "%04d-W%02d-%d"
 #define PAPER_WEEK_LABEL_BYTES 10
+
+/* Change request Nine's: the most bytes and records of a sheet, and the bytes of 1,024 lines with a least n of ten digits. */
+#define PAPER_SHEET_BYTES 65536
+#define PAPER_SHEET_RECORDS 1024
+#define PAPER_SHEET_REPORT_BYTES 18346
 
 /* The length of a month, 1 to 12, of any year. */
 int64_t plain_month_length(int64_t year, int64_t month);
@@ -104,6 +109,12 @@ int64_t plain_read_position(const uint8_t *text, size_t length);
 int64_t plain_read_cue(const uint8_t *line, size_t length, int64_t *cue);
 int64_t plain_first_difference(struct constants q, int64_t end);
 int64_t plain_check_bound(struct constants q, int64_t bound, int64_t *least);
+int64_t plain_sheet_read(const uint8_t *sheet, size_t length, int64_t *note_length);
+int64_t plain_sheet_record(const uint8_t *sheet, size_t length, int64_t place, int64_t *record);
+int64_t plain_sheet_check(const uint8_t *sheet, size_t length, int64_t place, int64_t *least);
+int64_t plain_sheet_write(const uint8_t *note, size_t note_length, const uint32_t *numbers, size_t count, uint8_t *out,
+                          size_t length);
+int64_t plain_sheet_report(const uint8_t *sheet, size_t length, uint8_t *out, size_t out_length);
 int64_t plain_follow(int64_t *clock, int64_t value);
 int64_t plain_follow_all(int64_t *clock, const int64_t *values, size_t count);
 

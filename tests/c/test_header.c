@@ -1,5 +1,5 @@
 /*
- * The header's macros, structs and words against the numbers of document 01 and of change requests Five, Seven and Eight. Compiled
+ * The header's macros, structs and words against the numbers of document 01 and of change requests Five and Seven to Nine. Compiled
  * as C and as C++, the header needing no other.
  */
 #include "ovenquill.h"
@@ -50,6 +50,12 @@ static void check_ranges(void)
     SAME(OVENQUILL_WEEK_LABEL_BYTES, PAPER_WEEK_LABEL_BYTES);
     SAME(OVENQUILL_POSITION_LABEL_MIN_BYTES, PAPER_POSITION_LABEL_MIN_BYTES);
     SAME(OVENQUILL_POSITION_LABEL_MAX_BYTES, PAPER_POSITION_LABEL_MAX_BYTES);
+    SAME(OVENQUILL_SHEET_RECORD_NUMBERS, 8);
+    SAME(OVENQUILL_SHEET_RECORD_BYTES, 32);
+    SAME(OVENQUILL_SHEET_TRAILER_BYTES, 12);
+    SAME(OVENQUILL_SHEET_MAX_RECORDS, PAPER_SHEET_RECORDS);
+    SAME(OVENQUILL_SHEET_MAX_BYTES, PAPER_SHEET_BYTES);
+    SAME(OVENQUILL_SHEET_REPORT_MAX_BYTES, PAPER_SHEET_REPORT_BYTES);
 }
 
 static void check_limits(void)
@@ -101,7 +107,7 @@ static void check_refusals(void)
         OVENQUILL_BUFFER_TOO_SHORT,       OVENQUILL_MALFORMED_LABEL,           OVENQUILL_CONSTANT_OUT_OF_LIMITS,
         OVENQUILL_DIFFERENCE_BELOW_BOUND, OVENQUILL_NO_DIFFERENCE_UP_TO_BOUND, OVENQUILL_UNEQUAL_LENGTHS,
         OVENQUILL_MALFORMED_TIMING,       OVENQUILL_CLOCK_OUT_OF_RANGE,        OVENQUILL_OUT_OF_ORDER,
-        OVENQUILL_WEEK_OUT_OF_RANGE,
+        OVENQUILL_WEEK_OUT_OF_RANGE,      OVENQUILL_MALFORMED_SHEET,
     };
     static const int64_t unknown[] = {-PAPER_LAST_REFUSAL - 1, INT32_MIN, INT64_MIN, INT64_MIN + 1};
     static const int64_t done[] = {0, 1, PAPER_LAST_REFUSAL, INT64_MAX};
@@ -129,17 +135,20 @@ static void check_structs(void)
     static const ovenquill_week_date week_date = {1, 2, 3};
     static const ovenquill_fields fields = {1, 2, 3, 4, 5, 6, 7};
     static const ovenquill_cue cue = {1, 2};
+    static const ovenquill_record record = {1, 2, 3, 4, 5, 6, 7, 8};
     static const ovenquill_clock clock = {1, 2}, start = OVENQUILL_CLOCK_START;
-    static const int64_t row[] = {1, 2, 3, 4, 5, 6, 7};
+    static const int64_t row[] = {1, 2, 3, 4, 5, 6, 7, 8};
     SAME(sizeof date, 3 * sizeof *row);
     SAME(sizeof week_date, 3 * sizeof *row);
     SAME(sizeof fields, 7 * sizeof *row);
     SAME(sizeof cue, 2 * sizeof *row);
+    SAME(sizeof record, 8 * sizeof *row);
     SAME(sizeof clock, 2 * sizeof *row);
     SAME(memcmp(&date, row, sizeof date), 0);
     SAME(memcmp(&week_date, row, sizeof week_date), 0);
     SAME(memcmp(&fields, row, sizeof fields), 0);
     SAME(memcmp(&cue, row, sizeof cue), 0);
+    SAME(memcmp(&record, row, sizeof record), 0);
     SAME(memcmp(&clock, row, sizeof clock), 0);
     SAME(date.year, 1);
     SAME(date.month, 2);
@@ -156,6 +165,14 @@ static void check_structs(void)
     SAME(fields.millisecond, 7);
     SAME(cue.start, 1);
     SAME(cue.end, 2);
+    SAME(record.a, 1);
+    SAME(record.b, 2);
+    SAME(record.d, 3);
+    SAME(record.m, 4);
+    SAME(record.c, 5);
+    SAME(record.k, 6);
+    SAME(record.t, 7);
+    SAME(record.bound, 8);
     SAME(sizeof clock.heard, sizeof *row);
     SAME(sizeof clock.position, sizeof *row);
     SAME(clock.heard, 1);

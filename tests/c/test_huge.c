@@ -95,6 +95,83 @@ static void check_index(void)
     }
 }
 
+/* A sheet of one record, which fits the front, and its report. */
+static const uint32_t tenth[] = {1, 0, 10, 26, 0, 8, 0, 100};
+#define SHEET (OVENQUILL_SHEET_RECORD_BYTES + OVENQUILL_SHEET_TRAILER_BYTES)
+
+/* Lengths that are modulo 2^32 that of the sheet at the front, which has no records. */
+static void check_huge_sheets(void)
+{
+    static uint8_t note[PAGE];
+    size_t i;
+    for (i = 0; i < COUNT(more); i++) {
+        const size_t length = BEYOND_32_BITS + more[i];
+        const int64_t input = (int64_t)more[i];
+        ovenquill_record record = {-1, -1, -1, -1, -1, -1, -1, -1};
+        int64_t note_length = -1, least = -1;
+        uint8_t text[4] = {'?', '?', '?', '?'};
+        if (more[i] >= OVENQUILL_SHEET_TRAILER_BYTES)
+            plain_sheet_write(note, more[i] - OVENQUILL_SHEET_TRAILER_BYTES, NULL, 0, mapped, more[i]);
+        same("read sheet", input, ovenquill_sheet_read(mapped, length, &note_length), OVENQUILL_MALFORMED_SHEET);
+        same("note length", input, note_length, -1);
+        same("record", input, ovenquill_sheet_record(mapped, length, 0, &record), OVENQUILL_MALFORMED_SHEET);
+        same("record", input, record.a == -1 && record.bound == -1, 1);
+        same("check record", input, ovenquill_sheet_check(mapped, length, 0, &least), OVENQUILL_MALFORMED_SHEET);
+        same("least", input, least, -1);
+        same("report", input, ovenquill_sheet_report(mapped, length, text, sizeof text), 3);
+        same("text", input, memcmp(text, "17\n?", sizeof text), 0);
+    }
+}
+
+/* A written sheet or its report at the front of a buffer. */
+static void check_huge_buffers(void)
+{
+    uint8_t sheet[SHEET];
+    size_t i;
+    plain_sheet_write(NULL, 0, tenth, COUNT(tenth), sheet, SHEET);
+    for (i = 0; i < COUNT(more); i++) {
+        const size_t length = BEYOND_32_BITS + more[i];
+        const int64_t input = (int64_t)more[i];
+        uint8_t right[FRONT];
+        memset(mapped, '?', FRONT);
+        memset(right, '?', FRONT);
+        same("write sheet", input, ovenquill_sheet_write(NULL, 0, tenth, COUNT(tenth), mapped, length),
+             plain_sheet_write(NULL, 0, tenth, COUNT(tenth), right, FRONT));
+        same("write sheet", input, memcmp(mapped, right, FRONT), 0);
+        memset(mapped, '?', FRONT);
+        memset(right, '?', FRONT);
+        same("report", input, ovenquill_sheet_report(sheet, SHEET, mapped, length), plain_sheet_report(sheet, SHEET, right, FRONT));
+        same("report", input, memcmp(mapped, right, FRONT), 0);
+    }
+}
+
+static void try_refused_write(const uint8_t *note, size_t note_length, const uint32_t *numbers, size_t count)
+{
+    uint8_t out[FRONT], kept[FRONT];
+    memset(out, '?', FRONT);
+    memset(kept, '?', FRONT);
+    same("refused sheet", (int64_t)note_length, ovenquill_sheet_write(note, note_length, numbers, count, out, FRONT),
+         OVENQUILL_MALFORMED_SHEET);
+    same("refused sheet", (int64_t)count, memcmp(out, kept, FRONT), 0);
+}
+
+/* Notes and numbers of a length that is small modulo 2^32, alone, in bytes, or with the rest of the sheet. */
+static void check_huge_notes(void)
+{
+    const uint32_t *numbers = (const uint32_t *)(const void *)mapped;
+    size_t i;
+    memset(mapped, 0, FRONT);
+    for (i = 0; i < COUNT(more); i++) {
+        try_refused_write(mapped, BEYOND_32_BITS + more[i], NULL, 0);
+        try_refused_write(mapped, BEYOND_32_BITS + more[i], tenth, COUNT(tenth));
+        try_refused_write(mapped, BEYOND_32_BITS - SHEET + more[i], tenth, COUNT(tenth));
+        try_refused_write(NULL, 0, numbers, BEYOND_32_BITS + more[i]);
+        try_refused_write(NULL, 0, numbers, BEYOND_32_BITS + 8 * (more[i] % 9));
+        try_refused_write(NULL, 0, numbers, BEYOND_32_BITS / 4 + 8 * (more[i] % 9));
+        try_refused_write(mapped, BEYOND_32_BITS / 2, numbers, BEYOND_32_BITS / 8);
+    }
+}
+
 int main(void)
 {
     void *block = mmap(NULL, MAPPED_BYTES, PROT_READ | PROT_WRITE, MAP_PRIVATE | MAP_ANONYMOUS | MAP_NORESERVE, -1, 0);
@@ -106,6 +183,9 @@ int main(void)
     check_writers();
     check_readers();
     check_index();
+    check_huge_sheets();
+    check_huge_buffers();
+    check_huge_notes();
     munmap(block, MAPPED_BYTES);
     return finish("huge lengths");
 }

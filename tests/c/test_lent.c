@@ -1,8 +1,8 @@
 /*
  * Every call, with what it is lent in heap blocks of exactly that size. Answers, buffers, lists and places are held to plain.h,
  * whole: what a refused call was lent and what stands after a label must be as it was. The texts for the readers of timestamps
- * and cue lines are in test_timings.c, the calls of the transport clock in test_transport.c, the numbers and labels to read of week
- * dates in test_weeks.c, and lengths beyond 32 bits in test_huge.c. Compiled as C and as C++.
+ * and cue lines are in test_timings.c, the calls of the transport clock in test_transport.c, those of sheets in test_sheets.c, the
+ * numbers and labels to read of week dates in test_weeks.c, and lengths beyond 32 bits in test_huge.c. Compiled as C and as C++.
  */
 #include <string.h>
 
@@ -755,20 +755,6 @@ static void check_null(void)
     SAME_WITH_PLACE(int64_t, 0, ovenquill_index_days(NULL, 0, NULL, 0, lent), plain_index_days(NULL, 0, NULL, 0, right));
     SAME_WITH_PLACE(int64_t, 1, ovenquill_index_days(none, 1, NULL, 0, lent), plain_index_days(none, 1, NULL, 0, right));
 }
-
-/*
- * Blocks that hold nothing yet, as C's callers hand them in: valgrind sees whether a call's answer depends on one, and whether
- * the call writes the bytes at its front that it must. `lent` is a block of `count` elements of `type`, `right` the plain call's.
- */
-#define SAME_WITH_UNSET(type, plain_type, count, bytes_written, call, plain_call)  \
-    do {                                                                           \
-        type *lent = (type *)malloc((count) * sizeof *lent);                       \
-        plain_type *right = (plain_type *)lend((count) * sizeof *lent);            \
-        same("unset " #call, 0, call, plain_call);                                 \
-        hold("unset " #call, 0, lent, right, bytes_written);                       \
-    } while (0)
-#define DONE_WITH_UNSET(type, call, plain_call) SAME_WITH_UNSET(type, int64_t, 1, sizeof(type), call, plain_call)
-#define REFUSED_WITH_UNSET(type, call, plain_call) SAME_WITH_UNSET(type, int64_t, 1, 0, call, plain_call)
 
 static void check_unset_places(void)
 {

@@ -1,7 +1,7 @@
 /*
  * Document 01's rows, "Numbers to try", and the words of change request One on reading positions, of Three on small letters,
  * of Four on weekdays, with a week of dates by the names and the numbers of their days, of Five on the transport clock, of Six on
- * the order of an index, of Seven on week dates, and of Eight on the range of years. Compiled as C and as C++.
+ * the order of an index, of Seven on week dates, of Eight on the range of years, and of Nine on sheets. Compiled as C and as C++.
  */
 #include <string.h>
 
@@ -671,6 +671,129 @@ static void check_museum_instants(void)
     check_unwritten_instant(INT64_MAX, 25, OVENQUILL_OUT_OF_RANGE);
 }
 
+/* The request's two claims, and a sheet of them behind a note of three bytes. */
+static const uint32_t tenths[] = {1, 0, 10, 26, 0, 8, 0, 69, 1, 0, 10, 26, 0, 8, 0, 100};
+static const uint8_t sheet_of_tenths[] = {
+    'a', 'b', 'c',
+    1, 0, 0, 0, 0, 0, 0, 0, 10, 0, 0, 0, 26, 0, 0, 0, 0, 0, 0, 0, 8, 0, 0, 0, 0, 0, 0, 0, 69,  0, 0, 0,
+    1, 0, 0, 0, 0, 0, 0, 0, 10, 0, 0, 0, 26, 0, 0, 0, 0, 0, 0, 0, 8, 0, 0, 0, 0, 0, 0, 0, 100, 0, 0, 0,
+    3, 0, 0, 0, 2, 0, 0, 0, 79, 0, 0, 0,
+};
+
+static void check_sheet_report(const uint8_t *sheet, size_t length, const char *text)
+{
+    uint8_t out[40];
+    const int64_t bytes = (int64_t)strlen(text);
+    memset(out, '?', sizeof out);
+    same("the report of a sheet", (int64_t)length, ovenquill_sheet_report(sheet, length, out, sizeof out), bytes);
+    same("the lines of a sheet", (int64_t)length, memcmp(out, text, (size_t)bytes), 0);
+    same("the bytes after the lines", (int64_t)length, out[bytes], '?');
+    if (bytes > 0)
+        same("a byte too few", (int64_t)length, ovenquill_sheet_report(sheet, length, out, (size_t)bytes - 1),
+             OVENQUILL_BUFFER_TOO_SHORT);
+}
+
+static void check_refused_sheet(const uint8_t *sheet, size_t length)
+{
+    ovenquill_record record = {7, 7, 7, 7, 7, 7, 7, 7};
+    int64_t note_length = 7, least = 7;
+    same("a refused sheet", (int64_t)length, ovenquill_sheet_read(sheet, length, &note_length), OVENQUILL_MALFORMED_SHEET);
+    same("its record", (int64_t)length, ovenquill_sheet_record(sheet, length, 0, &record), OVENQUILL_MALFORMED_SHEET);
+    same("its claim", (int64_t)length, ovenquill_sheet_check(sheet, length, 0, &least), OVENQUILL_MALFORMED_SHEET);
+    same("what it leaves", (int64_t)length, note_length == 7 && least == 7 && record.a == 7 && record.bound == 7, 1);
+    check_sheet_report(sheet, length, "17\n");
+}
+
+/* A sheet in which one byte of the trailer is another. */
+static void check_damaged_sheet(size_t place, uint8_t byte)
+{
+    uint8_t sheet[sizeof sheet_of_tenths];
+    memcpy(sheet, sheet_of_tenths, sizeof sheet);
+    sheet[place] = byte;
+    check_refused_sheet(sheet, sizeof sheet);
+}
+
+/*
+ * "The last 12 bytes of the file are a trailer: offset of the first record, number of records, length of the whole file. Records
+ * run from that offset up to the trailer without gap; bytes before them are a free note." "Asked for a record that isn't there, the
+ * reader answers 17. Each record otherwise gets accepted, 9, 10 with its least n, or 11."
+ */
+static void check_read_sheets(void)
+{
+    const size_t length = sizeof sheet_of_tenths;
+    static const uint8_t empty[] = {0, 0, 0, 0, 0, 0, 0, 0, 12, 0, 0, 0}, note_alone[] = {'x', 1, 0, 0, 0, 0, 0, 0, 0, 13, 0, 0, 0};
+    static const uint8_t elsewhere[] = {'x', 0, 0, 0, 0, 0, 0, 0, 0, 13, 0, 0, 0};
+    ovenquill_record record = {7, 7, 7, 7, 7, 7, 7, 7};
+    int64_t note_length = 7, least = 7;
+    same("a sheet of two records", 0, ovenquill_sheet_read(sheet_of_tenths, length, &note_length), 2);
+    same("a note of three bytes", 0, note_length, 3);
+    same("a record", 1, ovenquill_sheet_record(sheet_of_tenths, length, 1, &record), 0);
+    same("the constants of a record", 1, record.a == 1 && record.b == 0 && record.d == 10 && record.m == 26, 1);
+    same("the constants of a record", 1, record.c == 0 && record.k == 8 && record.t == 0 && record.bound == 100, 1);
+    same("a record that isn't there", 2, ovenquill_sheet_record(sheet_of_tenths, length, 2, &record), OVENQUILL_MALFORMED_SHEET);
+    same("a record below 0", -1, ovenquill_sheet_record(sheet_of_tenths, length, -1, &record), OVENQUILL_MALFORMED_SHEET);
+    same("an accepted record", 0, ovenquill_sheet_check(sheet_of_tenths, length, 0, &least), 0);
+    same("no least n", 0, least, 7);
+    same("a record with a difference below", 1, ovenquill_sheet_check(sheet_of_tenths, length, 1, &least),
+         OVENQUILL_DIFFERENCE_BELOW_BOUND);
+    same("its least n", 1, least, 69);
+    check_sheet_report(sheet_of_tenths, length, "0 accepted\n1 10 69\n");
+    same("a sheet without records", 0, ovenquill_sheet_read(empty, sizeof empty, &note_length), 0);
+    same("a note of no bytes", 0, note_length, 0);
+    check_sheet_report(empty, sizeof empty, "");
+    same("a note alone", 0, ovenquill_sheet_read(note_alone, sizeof note_alone, &note_length), 0);
+    same("a note of one byte", 0, note_length, 1);
+    check_refused_sheet(elsewhere, sizeof elsewhere);
+    check_refused_sheet(empty, sizeof empty - 1);
+    check_refused_sheet(sheet_of_tenths, length - 1);
+    check_refused_sheet(sheet_of_tenths + 1, length - 1);
+    /* the offset, the number of records and the length, one less and one more */
+    check_damaged_sheet(length - 12, 2);
+    check_damaged_sheet(length - 12, 4);
+    check_damaged_sheet(length - 8, 1);
+    check_damaged_sheet(length - 8, 3);
+    check_damaged_sheet(length - 4, 78);
+    check_damaged_sheet(length - 4, 80);
+}
+
+static void check_unwritten_sheet(size_t note_length, const uint32_t *numbers, size_t count, size_t length, int64_t refusal)
+{
+    static uint8_t note[65536], out[65536];
+    size_t i, changed = 0;
+    memset(out, '?', sizeof out);
+    same("a refused writing", (int64_t)count, ovenquill_sheet_write(note, note_length, numbers, count, out, length), refusal);
+    for (i = 0; i < sizeof out; i++)
+        changed += out[i] != '?';
+    same("the buffer of a refused writing", (int64_t)count, (int64_t)changed, 0);
+}
+
+/*
+ * "The writer takes the note and a list of u32, eight to a record; it answers the bytes written and touches nothing behind them, or
+ * refuses with 17 for a part record or too many records or bytes, then 7, changing nothing."
+ */
+static void check_written_sheets(void)
+{
+    static uint32_t many[1025 * 8];
+    uint8_t out[sizeof sheet_of_tenths + 1];
+    memset(out, '?', sizeof out);
+    same("a written sheet", 16, ovenquill_sheet_write((const uint8_t *)"abc", 3, tenths, 16, out, sizeof out), 79);
+    same("the bytes of a written sheet", 16, memcmp(out, sheet_of_tenths, 79), 0);
+    same("the byte behind a written sheet", 16, out[79], '?');
+    check_unwritten_sheet(3, tenths, 16, 78, OVENQUILL_BUFFER_TOO_SHORT);
+    check_unwritten_sheet(3, tenths, 16, 0, OVENQUILL_BUFFER_TOO_SHORT);
+    check_unwritten_sheet(0, tenths, 15, 65536, OVENQUILL_MALFORMED_SHEET);
+    check_unwritten_sheet(0, tenths, 1, 65536, OVENQUILL_MALFORMED_SHEET);
+    check_unwritten_sheet(0, many, 1025 * 8, 65536, OVENQUILL_MALFORMED_SHEET);
+    check_unwritten_sheet(0, many, 1024 * 8, 32779, OVENQUILL_BUFFER_TOO_SHORT);
+    check_unwritten_sheet(65525, many, 0, 65536, OVENQUILL_MALFORMED_SHEET);
+    check_unwritten_sheet(65524, many, 0, 65535, OVENQUILL_BUFFER_TOO_SHORT);
+    check_unwritten_sheet(65493, many, 8, 65536, OVENQUILL_MALFORMED_SHEET);
+    /* 17 before 7 */
+    check_unwritten_sheet(0, tenths, 15, 0, OVENQUILL_MALFORMED_SHEET);
+    check_unwritten_sheet(0, many, 1025 * 8, 0, OVENQUILL_MALFORMED_SHEET);
+    check_unwritten_sheet(65525, many, 0, 65535, OVENQUILL_MALFORMED_SHEET);
+}
+
 int main(void)
 {
     check_calendar();
@@ -688,5 +811,7 @@ int main(void)
     check_week_labels();
     check_museum_years();
     check_museum_instants();
-    return finish("the numbers of document 01 and of change requests One and Three to Eight");
+    check_read_sheets();
+    check_written_sheets();
+    return finish("the numbers of document 01 and of change requests One and Three to Nine");
 }
