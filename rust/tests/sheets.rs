@@ -570,6 +570,12 @@ fn the_most_bytes_and_one_more_are_read_and_refused() {
                 }
             }
         }
+        // The longest sheet, with more bytes behind it.
+        let mut sheet = sheet_of(&note[..most], &numbers[..NUMBERS * records]);
+        for more in [1, 12, 32, 65536] {
+            sheet.resize(MOST_BYTES + more, 0);
+            assert!(!try_reading(&sheet), "{more} bytes behind a sheet");
+        }
     }
 }
 
