@@ -177,6 +177,12 @@ fn trailer_of(sheet: &[u8]) -> [u32; 3] {
     [note_length as u32, records as u32, sheet.len() as u32]
 }
 
+/// Whether a trailer of these numbers is that of a sheet of that length, in sums that do not wrap.
+fn fits(numbers: [u32; 3], length: usize) -> bool {
+    let [offset, records, said] = numbers.map(u128::from);
+    said == length as u128 && length <= 65536 && records <= 1024 && offset + 32 * records + 12 == said
+}
+
 // The request's own words
 
 #[test]
@@ -444,13 +450,9 @@ fn two_numbers_of_the_trailer_changed() {
                 [offset.wrapping_add(step), records, length.wrapping_add(step)],
                 [offset.wrapping_sub(step), records, length.wrapping_sub(step)],
             ] {
-                let changed = with_trailer(&sheet, numbers);
-                let is_sheet = try_reading(&changed);
-                // As many records, or more or fewer where the note has room for them.
-                let fits = numbers[2] == length
-                    && numbers[1] <= 1024
-                    && u64::from(numbers[0]) + 32 * u64::from(numbers[1]) + 12 == u64::from(length);
-                assert_eq!(is_sheet, fits, "{right:?} as {numbers:?}");
+                // Some fit: more or fewer records, where the note has room for them.
+                let is_sheet = try_reading(&with_trailer(&sheet, numbers));
+                assert_eq!(is_sheet, fits(numbers, sheet.len()), "{right:?} as {numbers:?}");
             }
         }
     }
@@ -486,12 +488,10 @@ fn sums_that_wrap_in_32_bits() {
         for numbers @ [offset, records, said] in tried {
             let last = trailer(offset as usize, records as usize, said as usize);
             let whole = [front, &last].concat();
-            let fits = said as usize == length
-                && records <= 1024
-                && u64::from(offset) + 32 * u64::from(records) + 12 == length as u64;
-            assert_eq!(sheet::read(&whole).is_ok(), fits, "{length} bytes with {numbers:?}");
-            assert_eq!(answer(sheet::read(&whole)), plain_sheets::read(&whole), "{length} bytes with {numbers:?}");
-            if !fits {
+            let read = sheet::read(&whole);
+            assert_eq!(read.is_ok(), fits(numbers, length), "{length} bytes with {numbers:?}");
+            assert_eq!(answer(read), plain_sheets::read(&whole), "{length} bytes with {numbers:?}");
+            if read.is_err() {
                 assert_eq!(sheet::record(&whole, 0), Err(Refusal::MalformedSheet));
                 assert_eq!(answer(sheet::check(&whole, 0)), Refused(17));
                 try_report(&whole, [2, 3]);
