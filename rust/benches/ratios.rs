@@ -771,8 +771,8 @@ fn constants_lines() {
 // Sheets
 
 /// A note of any length up to the most.
-fn some_note(random: &mut Random) -> Vec<u8> {
-    let length = random.within(0, MOST_NOTE as i64);
+fn some_note(random: &mut Random, most: usize) -> Vec<u8> {
+    let length = random.within(0, most as i64);
     (0..length).map(|_| random.next() as u8).collect()
 }
 
@@ -807,18 +807,24 @@ fn sheet_of(note: &[u8], numbers: &[u32]) -> Vec<u8> {
 
 fn sheet_lines() {
     let random = &mut Random::new(111);
-    for (records, count) in [(MAX_RECORDS, INPUTS / MAX_RECORDS), (2, INPUTS / 8)] {
+    for (records, count, most_note) in
+        [(MAX_RECORDS, INPUTS / MAX_RECORDS, MOST_NOTE), (2, INPUTS / 8, MOST_NOTE), (2, INPUTS / 8, 0)]
+    {
         let parts: Vec<(Vec<u8>, Vec<u32>)> =
-            (0..count).map(|_| (some_note(random), any_numbers(random, records))).collect();
+            (0..count).map(|_| (some_note(random, most_note), any_numbers(random, records))).collect();
         let sheets: Vec<Vec<u8>> = parts.iter().map(|(note, numbers)| sheet_of(note, numbers)).collect();
+        let what = match most_note {
+            0 => format!("{records} records, no note"),
+            _ => format!("{records} records, a note of 0 to {most_note} bytes"),
+        };
         line::<SheetWriter>(
-            &format!("sheet written, {records} records"),
+            &format!("sheet written, {what}"),
             &Inputs::of(&parts),
             raw::ovenquill_sheet_write,
             &[(BY_HAND, sheets::write)],
         );
         line(
-            &format!("sheet read, {records} records"),
+            &format!("sheet read, {what}"),
             &Inputs::of(&sheets),
             SheetReader::ByPlaces(raw::ovenquill_sheet_read, raw::ovenquill_sheet_record),
             &[
@@ -831,7 +837,7 @@ fn sheet_lines() {
         [("random claims", some_claims as fn(&mut Random, usize) -> Vec<u32>), ("records of any numbers", any_numbers)]
     {
         let sheets: Vec<Vec<u8>> =
-            (0..PARTS).map(|_| sheet_of(&some_note(random), &numbers(random, MAX_RECORDS))).collect();
+            (0..PARTS).map(|_| sheet_of(&some_note(random, MOST_NOTE), &numbers(random, MAX_RECORDS))).collect();
         line::<Reporter>(
             &format!("report of {MAX_RECORDS} {what}"),
             &Inputs::of(&sheets),
