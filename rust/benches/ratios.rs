@@ -13,9 +13,11 @@ mod rivals;
 
 use measure::call::{
     CueReader, Eight, EightTo, Follower, FourTo, GoingOn, Index, ListFollower, One, OneTo, PositionReader, Reader,
-    SevenTo, Text, Three, ThreeTo, Two, Waiting, WeekReader, Writer, MOST_BLANKS,
+    Reporter, SevenTo, SheetReader, SheetWriter, Text, Three, ThreeTo, Two, Waiting, WeekReader, Writer, MOST_BLANKS,
+    MOST_NOTE,
 };
 use measure::{best_times, line, percentile, shown, Inputs, PARTS, ROUNDS};
+use ovenquill::sheet::{self, MAX_BYTES, MAX_RECORDS, RECORD_NUMBERS};
 use ovenquill::{
     raw, Constants, Date, Fields, WeekDate, CLAIM_BOUNDS, CLOCK_POSITIONS, CLOCK_VALUES, DAYS, INSTANTS,
     INSTANT_LABEL_BYTES, POSITIONS, SEARCH_ENDS, WEEK_LABEL_BYTES, YEARS,
@@ -29,7 +31,7 @@ use rivals::labels::{BY_BYTES, BY_CENTURY, BY_WORDS};
 #[cfg(lengths)]
 use rivals::lengths;
 use rivals::transport::{BY_COMPARES, BY_REMAINDER, BY_VALUE_BEFORE};
-use rivals::{calendar, constants, instants, labels, transport, weeks};
+use rivals::{calendar, constants, instants, labels, sheets, transport, weeks};
 
 /// The inputs of most lines.
 const INPUTS: usize = 131072;
@@ -52,6 +54,7 @@ fn main() {
     timing_lines();
     index_lines();
     constants_lines();
+    sheet_lines();
     transport_lines();
     println!();
     constants_times();
@@ -763,6 +766,85 @@ fn constants_lines() {
         raw::ovenquill_first_difference,
         &[(WALK, constants::first_difference)],
     );
+}
+
+// Sheets
+
+/// A note of any length up to the most.
+fn some_note(random: &mut Random, most: usize) -> Vec<u8> {
+    let length = random.within(0, most as i64);
+    (0..length).map(|_| random.next() as u8).collect()
+}
+
+fn any_numbers(random: &mut Random, records: usize) -> Vec<u32> {
+    (0..records * RECORD_NUMBERS).map(|_| random.next() as u32).collect()
+}
+
+/// Claims of any allowed constants and of the nearest multipliers, as often right as with another bound, and one in eight with a
+/// number outside its limits.
+fn some_claims(random: &mut Random, records: usize) -> Vec<u32> {
+    let mut claim = |_| {
+        let q = if random.within(0, 1) == 0 { any_allowed(random) } else { near_exact(random, LARGEST.d) };
+        let right = claims_of(&[q])[0];
+        let mut numbers = right.map(|number| number as u32);
+        if random.within(0, 1) == 0 {
+            numbers[7] = random.of_any_size(*CLAIM_BOUNDS.start(), *CLAIM_BOUNDS.end()) as u32;
+        }
+        if random.within(0, 7) == 0 {
+            numbers[5] += LARGEST.k as u32 + 1;
+        }
+        numbers
+    };
+    (0..records).flat_map(&mut claim).collect()
+}
+
+fn sheet_of(note: &[u8], numbers: &[u32]) -> Vec<u8> {
+    let mut sheet = vec![0; MAX_BYTES];
+    let length = sheet::write(note, numbers, &mut sheet).expect("a note and records that make a sheet");
+    sheet.truncate(length);
+    sheet
+}
+
+fn sheet_lines() {
+    let random = &mut Random::new(111);
+    for (records, count, most_note) in
+        [(MAX_RECORDS, INPUTS / MAX_RECORDS, MOST_NOTE), (2, INPUTS / 8, MOST_NOTE), (2, INPUTS / 8, 0)]
+    {
+        let parts: Vec<(Vec<u8>, Vec<u32>)> =
+            (0..count).map(|_| (some_note(random, most_note), any_numbers(random, records))).collect();
+        let sheets: Vec<Vec<u8>> = parts.iter().map(|(note, numbers)| sheet_of(note, numbers)).collect();
+        let what = match most_note {
+            0 => format!("{records} records, no note"),
+            _ => format!("{records} records, a note of 0 to {most_note} bytes"),
+        };
+        line::<SheetWriter>(
+            &format!("sheet written, {what}"),
+            &Inputs::of(&parts),
+            raw::ovenquill_sheet_write,
+            &[(BY_HAND, sheets::write)],
+        );
+        line(
+            &format!("sheet read, {what}"),
+            &Inputs::of(&sheets),
+            SheetReader::ByPlaces(raw::ovenquill_sheet_read, raw::ovenquill_sheet_record),
+            &[
+                (BY_HAND, SheetReader::ByPlaces(sheets::read, sheets::record)),
+                ("Rust, all records by one call", SheetReader::AtOnce(sheets::all_records)),
+            ],
+        );
+    }
+    for (what, numbers) in
+        [("random claims", some_claims as fn(&mut Random, usize) -> Vec<u32>), ("records of any numbers", any_numbers)]
+    {
+        let sheets: Vec<Vec<u8>> =
+            (0..PARTS).map(|_| sheet_of(&some_note(random, MOST_NOTE), &numbers(random, MAX_RECORDS))).collect();
+        line::<Reporter>(
+            &format!("report of {MAX_RECORDS} {what}"),
+            &Inputs::of(&sheets),
+            raw::ovenquill_sheet_report,
+            &[("Rust, with our verdicts", sheets::report)],
+        );
+    }
 }
 
 /// Prints the mean and the worst time of a search to the last end, and of a claim of what it found.

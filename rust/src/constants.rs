@@ -145,9 +145,15 @@ impl From<ClaimError> for Refusal {
 #[inline]
 pub fn check_bound(constants: Constants, bound: i64) -> Result<(), ClaimError> {
     let Constants { a, b, d, m, c, k, t } = constants;
+    // SAFETY: the place is ours to lend.
+    judged(|least| unsafe { raw::ovenquill_check_bound(a, b, d, m, c, k, t, bound, least) })
+}
+
+/// What a call answered that accepts a claim or turns it down, and then may write the least input to the place that it was lent.
+#[inline]
+pub(crate) fn judged(call: impl FnOnce(&mut i64) -> i64) -> Result<(), ClaimError> {
     // No input: the call leaves it so where it has none to hand back.
     let mut least = -1;
-    // SAFETY: the place is ours to lend.
-    let checked = placed((), |()| unsafe { raw::ovenquill_check_bound(a, b, d, m, c, k, t, bound, &mut least) });
+    let checked = placed((), |()| call(&mut least));
     checked.map_err(|refusal| ClaimError { refusal, least: (least >= 0).then_some(least) })
 }

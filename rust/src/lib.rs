@@ -1,6 +1,6 @@
 //! The proleptic Gregorian calendar, ISO 8601 week dates and their labels, instants and their RFC 3339 labels, position
-//! labels (WebVTT timestamps) and cue lines, a checker of multiply-and-shift constants, and a follower of the 33-bit
-//! transport clock, proved right.
+//! labels (WebVTT timestamps) and cue lines, a checker of multiply-and-shift constants, sheets of claims about them, and a
+//! follower of the 33-bit transport clock, proved right.
 //!
 //! This package is a safe wrapper over the archive `libovenquill.a`, whose functions are proved to meet their contracts.
 //! What the wrapper itself does is small: it lends the calls places for their answers and gives the numbers of refusals
@@ -14,6 +14,7 @@
 //! | labels of instants | [`InstantLabel`] | [`instant_label`], [`write_instant`], [`read_instant`] |
 //! | labels of positions, cue lines | [`PositionLabel`], [`Cue`] | [`position_label`], [`write_position`], [`read_position`], [`read_cue`] |
 //! | constants that stand for a division | [`Constants`], [`ClaimError`] | [`first_difference`], [`check_bound`] |
+//! | claims by file, in [`sheet`] | [`Record`](sheet::Record), [`Records`](sheet::Records), [`Contents`](sheet::Contents) | [`read`](sheet::read), [`note`](sheet::note), [`record`](sheet::record), [`records`](sheet::records), [`check`](sheet::check), [`write`](sheet::write), [`report`](sheet::report) |
 //! | the clock of a transport stream | [`Clock`], [`ClockPosition`] | [`Clock::follow`], [`Clock::follow_all`] |
 //!
 //! Every call takes any numbers and any slices. What it does not take it answers with a [`Refusal`], which has a number and
@@ -55,6 +56,7 @@ mod labels;
 #[doc(hidden)]
 pub mod raw;
 mod refusal;
+pub mod sheet;
 mod text;
 mod transport;
 mod week;

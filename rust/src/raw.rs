@@ -2,6 +2,7 @@
 //! Every call returns a number from 0, or the refusal's number negated.
 #![allow(missing_docs)]
 
+use crate::sheet::Record;
 use crate::{Cue, Date, Fields, WeekDate};
 
 /// A transport clock: `heard` is 0 where nothing has been heard yet, and `position` is then not looked at.
@@ -64,6 +65,19 @@ extern "C" {
         bound: i64,
         least: *mut i64,
     ) -> i64;
+
+    pub fn ovenquill_sheet_read(sheet: *const u8, length: usize, note_length: *mut i64) -> i64;
+    pub fn ovenquill_sheet_record(sheet: *const u8, length: usize, place: i64, record: *mut Record) -> i64;
+    pub fn ovenquill_sheet_check(sheet: *const u8, length: usize, place: i64, least: *mut i64) -> i64;
+    pub fn ovenquill_sheet_write(
+        note: *const u8,
+        note_length: usize,
+        numbers: *const u32,
+        count: usize,
+        out: *mut u8,
+        length: usize,
+    ) -> i64;
+    pub fn ovenquill_sheet_report(sheet: *const u8, length: usize, out: *mut u8, out_length: usize) -> i64;
 
     pub fn ovenquill_follow(clock: *mut Clock, value: i64) -> i64;
     pub fn ovenquill_follow_all(clock: *mut Clock, values: *const i64, count: usize) -> i64;

@@ -119,7 +119,7 @@ refusals! {
     );
     /// A position outside [`POSITIONS`].
     PositionOutOfRange = 6, ("position below {} or above {}", POSITIONS.start(), POSITIONS.end());
-    /// A buffer with fewer bytes than the label.
+    /// A buffer with fewer bytes than the label, or than the sheet of constants or the report on one.
     BufferTooShort = 7, ("buffer shorter than the label");
     /// A label of another length or shape than the writer's; but its T and Z may be small.
     MalformedLabel = 8, (
@@ -156,6 +156,9 @@ refusals! {
         Weekday::Monday.number(),
         Weekday::Sunday.number()
     );
+    /// Bytes that are no sheet of constants, a place where a sheet has no record, or a note and numbers that make no sheet
+    /// ([`sheet`](crate::sheet)).
+    MalformedSheet = 17, ("sheet of another form, or a record that it does not have");
 }
 
 impl Error for Refusal {}
@@ -249,7 +252,7 @@ mod tests {
     }
 
     /// Answers below zero, of refusals and of none.
-    const BELOW_ZERO: [i64; 5] = [i64::MIN, -1000, -17, -4, -1];
+    const BELOW_ZERO: [i64; 5] = [i64::MIN, -1000, -18, -4, -1];
 
     #[test]
     fn a_returned_value_or_count_is_not_below_zero() {

@@ -3,6 +3,7 @@
 
 mod support;
 
+use ovenquill::sheet::Record;
 use ovenquill::{raw, Clock, Constants, Cue, Date, Fields, WeekDate};
 use std::fmt::Debug;
 use std::ptr;
@@ -12,11 +13,12 @@ use support::plain::{
     LAST_CLOCK_POSITION, LAST_DAY, LAST_INSTANT, LAST_LABEL_INSTANT, LAST_LABEL_YEAR, LAST_POSITION, LAST_YEAR, SECOND,
     WRAP,
 };
+use support::plain_sheets::{self, sheet_of, TRAILER_BYTES};
 use support::plain_weeks::{
     self, FIRST_WEEK_LABEL_DAY, FIRST_WEEK_YEAR, LAST_WEEK_LABEL_DAY, LAST_WEEK_YEAR, WEEK_LABEL_BYTES,
 };
 use support::random::Random;
-use support::BAD_INSTANTS;
+use support::{some_claim, BAD_INSTANTS};
 
 const GUARD: i64 = 0x5afe_c0de_5afe_c0de;
 /// What a place holds before a call.
@@ -34,6 +36,16 @@ const FIELDS_BEFORE: Fields = Fields {
 };
 
 const CUE_BEFORE: Cue = Cue { start: BEFORE, end: BEFORE + 1 };
+const RECORD_BEFORE: Record = Record {
+    a: BEFORE,
+    b: BEFORE + 1,
+    d: BEFORE + 2,
+    m: BEFORE + 3,
+    c: BEFORE + 4,
+    k: BEFORE + 5,
+    t: BEFORE + 6,
+    bound: BEFORE + 7,
+};
 
 /// A place among guard numbers.
 #[repr(C)]
@@ -325,6 +337,91 @@ fn searches_and_claims() {
     assert!(seen.iter().all(|&times| times > 10_000), "accepted, refused by 10, by 9 and by 11: {seen:?}");
 }
 
+#[test]
+fn the_readers_of_sheets() {
+    let mut random = Random::new(90);
+    let mut seen = [0; 6];
+    for _ in 0..100_000 {
+        let note: Vec<u8> = (0..random.of_any_size(0, 60)).map(|_| random.next() as u8).collect();
+        let claims: Vec<u32> = (0..random.within(0, 4)).flat_map(|_| some_claim(&mut random)).collect();
+        let mut sheet = sheet_of(&note, &claims);
+        match random.within(0, 5) {
+            0 => {
+                let place = random.within((sheet.len() - TRAILER_BYTES) as i64, sheet.len() as i64 - 1) as usize;
+                sheet[place] = random.next() as u8;
+            }
+            1 => sheet.truncate(random.within(0, sheet.len() as i64) as usize),
+            _ => {}
+        }
+        let place = some(&mut random, 0, 3);
+        let (bytes, length) = (sheet.as_ptr(), sheet.len());
+
+        let wanted = match plain_sheets::read(&sheet) {
+            Value(contents) => (contents.records, contents.note_length as i64),
+            refused => (-refused_number(refused), BEFORE),
+        };
+        let answered = lend(BEFORE, |note_length| unsafe { raw::ovenquill_sheet_read(bytes, length, note_length) });
+        assert_eq!(answered, wanted, "{sheet:?}");
+        try_place(plain_sheets::record(&sheet, place), RECORD_BEFORE, |record| unsafe {
+            raw::ovenquill_sheet_record(bytes, length, place, record)
+        });
+        let (wanted, kind) = match plain_sheets::check(&sheet, place) {
+            Value(()) => ((0, BEFORE), 0),
+            RefusedAt(number, least) => ((-number, least), 1),
+            Refused(9) => ((-9, BEFORE), 2),
+            Refused(11) => ((-11, BEFORE), 3),
+            Refused(number) => ((-number, BEFORE), if wanted.0 < 0 { 4 } else { 5 }),
+        };
+        let answered = lend(BEFORE, |least| unsafe { raw::ovenquill_sheet_check(bytes, length, place, least) });
+        assert_eq!(answered, wanted, "place {place} of {sheet:?}");
+        seen[kind] += 1;
+    }
+    assert!(
+        seen.iter().all(|&times| times > 3_000),
+        "accepted, refused by 10, by 9 and by 11, no sheet and no such record: {seen:?}"
+    );
+}
+
+#[test]
+fn the_writers_of_sheets_and_reports() {
+    let claims = [[1, 0, 10, 26, 0, 8, 0, 69], [1, 0, 10, 26, 0, 8, 0, 100]].concat();
+    let sheet = sheet_of(b"note", &claims);
+    let text = b"0 accepted\n1 10 69\n";
+    for (count, length, returns) in [
+        (16, 79, -7),
+        (16, 80, 80),
+        (16, 90, 80),
+        (15, 80, -17),
+        (9, 0, -17),
+        (8, 48, 48),
+        (8, 47, -7),
+        (7, 100, -17),
+        (0, 16, 16),
+        (0, 15, -7),
+    ] {
+        let mut out = vec![b'?'; length];
+        let expected = sheet_of(b"note", &claims[..count]);
+        let written = unsafe {
+            raw::ovenquill_sheet_write(b"note".as_ptr(), 4, claims.as_ptr(), count, out.as_mut_ptr(), length)
+        };
+        assert_eq!(written, returns, "{count} numbers to {length} bytes");
+        let (front, rest) = out.split_at(written.max(0) as usize);
+        assert!(front.is_empty() || front == expected, "{count} numbers to {length} bytes");
+        assert!(rest.iter().all(|&byte| byte == b'?'), "{count} numbers to {length} bytes");
+    }
+    for (sheet, text) in [(&sheet[..], &text[..]), (&sheet[1..], b"17\n"), (&sheet_of(b"note", &[]), b"")] {
+        for out_length in 0..=40 {
+            let mut out = vec![b'?'; out_length];
+            let written =
+                unsafe { raw::ovenquill_sheet_report(sheet.as_ptr(), sheet.len(), out.as_mut_ptr(), out_length) };
+            assert_eq!(written, if out_length < text.len() { -7 } else { text.len() as i64 }, "{out_length} bytes");
+            let (front, rest) = out.split_at(written.max(0) as usize);
+            assert!(front.is_empty() || front == text, "{out_length} bytes");
+            assert!(rest.iter().all(|&byte| byte == b'?'), "{out_length} bytes");
+        }
+    }
+}
+
 /// What a clock may say that was heard: nothing yet is 0, and anything else is something.
 const HEARD: [i64; 6] = [0, 1, -1, 2, i64::MIN, i64::MAX];
 
@@ -467,6 +564,24 @@ fn no_slice_at_all() {
     let indexed =
         lend(BEFORE, |place| unsafe { raw::ovenquill_index_days(ptr::null(), 0, days.as_mut_ptr(), 1, place) });
     assert_eq!((indexed, days), ((-12, BEFORE), [7]));
+    let read = lend(BEFORE, |note_length| unsafe { raw::ovenquill_sheet_read(ptr::null(), 0, note_length) });
+    assert_eq!(read, (-17, BEFORE));
+    let read = lend(RECORD_BEFORE, |record| unsafe { raw::ovenquill_sheet_record(ptr::null(), 0, 0, record) });
+    assert_eq!(read, (-17, RECORD_BEFORE));
+    let checked = lend(BEFORE, |least| unsafe { raw::ovenquill_sheet_check(ptr::null(), 0, 0, least) });
+    assert_eq!(checked, (-17, BEFORE));
+    let mut out = [b'?'; 13];
+    let write =
+        |out: *mut u8, length| unsafe { raw::ovenquill_sheet_write(ptr::null(), 0, ptr::null(), 0, out, length) };
+    assert_eq!(write(ptr::null_mut(), 0), -7);
+    assert_eq!(write(out.as_mut_ptr(), 13), 12);
+    assert_eq!(&out, b"\0\0\0\0\0\0\0\0\x0c\0\0\0?");
+    let empty = out;
+    assert_eq!(unsafe { raw::ovenquill_sheet_report(empty.as_ptr(), 12, ptr::null_mut(), 0) }, 0);
+    assert_eq!(unsafe { raw::ovenquill_sheet_report(empty.as_ptr(), 11, ptr::null_mut(), 0) }, -7);
+    assert_eq!(unsafe { raw::ovenquill_sheet_report(ptr::null(), 0, ptr::null_mut(), 0) }, -7);
+    assert_eq!(unsafe { raw::ovenquill_sheet_report(ptr::null(), 0, out.as_mut_ptr(), 13) }, 3);
+    assert_eq!(&out, b"17\n\0\0\0\0\0\x0c\0\0\0?");
     for heard in HEARD {
         for position in [0, WRAP, LAST_CLOCK_POSITION, BEFORE] {
             let numbers = raw::Clock { heard, position };

@@ -1,17 +1,18 @@
 //! The refusals: their numbers and words, and a call that gives each, against document 01's table, which change requests One,
-//! Three, Five, Six, Seven and Eight change.
+//! Three, Five, Six, Seven, Eight and Nine change.
 
 mod support;
 
 use ovenquill::{
     add_days, check_bound, civil_from_days, day_of_instant, days_from_civil, days_from_week, first_difference,
-    index_days, is_leap, join_instant, last_day_of_month, read_cue, read_instant, read_position, read_week,
+    index_days, is_leap, join_instant, last_day_of_month, read_cue, read_instant, read_position, read_week, sheet,
     week_from_days, weekday, write_instant, write_position, write_week, ClaimError, Clock, Constants, Date, Fields,
     IndexError, Refusal, WeekDate,
 };
 use std::error::Error;
 use std::fmt::Display;
 use support::plain::{FIRST_DAY, FIRST_YEAR, LAST_INSTANT, LAST_YEAR};
+use support::plain_sheets::sheet_of;
 use support::plain_weeks::FIRST_WEEK_YEAR;
 
 /// Each refusal with document 01's number.
@@ -32,6 +33,7 @@ const TABLE: &[(i64, Refusal)] = &[
     (14, Refusal::ClockOutOfRange),
     (15, Refusal::OutOfOrder),
     (16, Refusal::WeekOutOfRange),
+    (17, Refusal::MalformedSheet),
 ];
 
 fn numbers() -> Vec<i64> {
@@ -106,6 +108,8 @@ const NOON: Fields = Fields { year: 2023, month: 5, day: 10, hour: 12, minute: 0
 
 #[test]
 fn each_refusal_is_given() {
+    let claim = |bound| [1, 0, 10, 26, 0, 8, 0, bound];
+    let sheet = sheet_of(b"", [claim(u32::MAX), claim(100), claim(10)].as_flattened());
     let given: Vec<(i64, Vec<Refusal>)> = vec![
         (
             1,
@@ -150,12 +154,21 @@ fn each_refusal_is_given() {
                 write_instant(0, &mut []).unwrap_err(),
                 write_week(0, &mut []).unwrap_err(),
                 write_position(0, &mut []).unwrap_err(),
+                sheet::write(b"", &[], &mut []).unwrap_err(),
+                sheet::report(b"", &mut []).unwrap_err(),
             ],
         ),
         (8, vec![read_instant(b"").unwrap_err(), read_week(b"").unwrap_err()]),
-        (9, vec![first_difference(CONSTANTS, -1).unwrap_err(), check_bound(CONSTANTS, -1).unwrap_err().into()]),
-        (10, vec![check_bound(CONSTANTS, 100).unwrap_err().into()]),
-        (11, vec![check_bound(CONSTANTS, 10).unwrap_err().into()]),
+        (
+            9,
+            vec![
+                first_difference(CONSTANTS, -1).unwrap_err(),
+                check_bound(CONSTANTS, -1).unwrap_err().into(),
+                sheet::check(&sheet, 0).unwrap_err().into(),
+            ],
+        ),
+        (10, vec![check_bound(CONSTANTS, 100).unwrap_err().into(), sheet::check(&sheet, 1).unwrap_err().into()]),
+        (11, vec![check_bound(CONSTANTS, 10).unwrap_err().into(), sheet::check(&sheet, 2).unwrap_err().into()]),
         (12, vec![index_days(&[0], &mut []).unwrap_err().into()]),
         (
             13,
@@ -182,6 +195,17 @@ fn each_refusal_is_given() {
                 days_from_week(WeekDate::new(2023, 1, 8)).unwrap_err(),
                 read_week(b"2023-W00-1").unwrap_err(),
                 read_week(b"2023-W01-0").unwrap_err(),
+            ],
+        ),
+        (
+            17,
+            vec![
+                sheet::read(b"").unwrap_err(),
+                sheet::note(b"").unwrap_err(),
+                sheet::record(&sheet, 3).unwrap_err(),
+                sheet::records(b"").unwrap_err(),
+                sheet::check(&sheet, -1).unwrap_err().into(),
+                sheet::write(b"", &[0], &mut []).unwrap_err(),
             ],
         ),
     ];
@@ -217,4 +241,9 @@ fn errors_that_hand_back_more() {
         assert_eq!((error.refusal, error.least), (refusal, None));
         assert_eq!(Box::<dyn Error>::from(error).to_string(), refusal.to_string());
     }
+    let error: ClaimError = sheet::check(&sheet_of(b"", &[1, 0, 10, 26, 0, 8, 0, 79]), 0).unwrap_err();
+    assert_eq!(error, check_bound(CONSTANTS, 79).unwrap_err());
+    let error: ClaimError = sheet::check(b"", 0).unwrap_err();
+    assert_eq!((error.refusal, error.least), (Refusal::MalformedSheet, None));
+    assert_eq!(error.to_string(), "sheet of another form, or a record that it does not have");
 }

@@ -1,6 +1,7 @@
 //! The shapes of the C calls, so that a line can be measured and compared whatever its call takes and writes.
 
 use ovenquill::raw::Clock;
+use ovenquill::sheet::{Record, MAX_RECORDS, REPORT_MAX_BYTES, TRAILER_BYTES};
 use ovenquill::{Cue, Date, Fields, WeekDate, INSTANT_LABEL_BYTES, POSITION_LABEL_BYTES, WEEK_LABEL_BYTES};
 use std::fmt::Debug;
 
@@ -316,6 +317,97 @@ impl Call for Index {
 
     fn sum((days, _): &(Vec<i32>, i64)) -> i64 {
         days[days.len() / 2].into()
+    }
+}
+
+pub type SheetWriter = unsafe extern "C" fn(*const u8, usize, *const u32, usize, *mut u8, usize) -> i64;
+
+/// The bytes of the longest note of a sheet that is written.
+pub const MOST_NOTE: usize = 64;
+
+impl Call for SheetWriter {
+    /// The note and the numbers; of a line, all sheets have as many numbers.
+    type Input = (Vec<u8>, Vec<u32>);
+    type Lent = Vec<u8>;
+
+    fn cleared((_, numbers): &Self::Input) -> Vec<u8> {
+        vec![b'?'; MOST_NOTE + size_of_val(&numbers[..]) + TRAILER_BYTES]
+    }
+
+    fn call(self, (note, numbers): &Self::Input, lent: &mut Vec<u8>) -> i64 {
+        // SAFETY: the pointers and the lengths are those of the lists and of the buffer.
+        unsafe { self(note.as_ptr(), note.len(), numbers.as_ptr(), numbers.len(), lent.as_mut_ptr(), lent.len()) }
+    }
+
+    fn sum(lent: &Vec<u8>) -> i64 {
+        lent[lent.len() / 2].into()
+    }
+}
+
+/// How a sheet is read to a list of records.
+#[derive(Clone, Copy)]
+pub enum SheetReader {
+    /// By a call for their number and a call for each place, which tests the sheet again.
+    ByPlaces(Contents, RecordReader),
+    /// By one call for all of them.
+    AtOnce(ListReader),
+}
+
+type Contents = unsafe extern "C" fn(*const u8, usize, *mut i64) -> i64;
+type RecordReader = unsafe extern "C" fn(*const u8, usize, i64, *mut Record) -> i64;
+type ListReader = unsafe extern "C" fn(*const u8, usize, *mut Record, usize) -> i64;
+
+/// What a record is cleared to.
+const NO_RECORD: Record =
+    Record { a: CLEARED, b: CLEARED, d: CLEARED, m: CLEARED, c: CLEARED, k: CLEARED, t: CLEARED, bound: CLEARED };
+
+impl Call for SheetReader {
+    type Input = Vec<u8>;
+    type Lent = Vec<Record>;
+
+    fn cleared(_: &Vec<u8>) -> Vec<Record> {
+        vec![NO_RECORD; MAX_RECORDS]
+    }
+
+    fn call(self, sheet: &Vec<u8>, lent: &mut Vec<Record>) -> i64 {
+        let (bytes, length) = (sheet.as_ptr(), sheet.len());
+        // SAFETY: the pointers and the lengths are those of the sheet and of the list, and the places are ours to lend.
+        match self {
+            SheetReader::ByPlaces(contents, record) => {
+                let mut note_length = CLEARED;
+                let records = unsafe { contents(bytes, length, &mut note_length) };
+                let mut refused = 0;
+                for (place, lent) in (0..records).zip(lent) {
+                    refused |= unsafe { record(bytes, length, place, lent) };
+                }
+                records | refused
+            }
+            SheetReader::AtOnce(list) => unsafe { list(bytes, length, lent.as_mut_ptr(), lent.len()) },
+        }
+    }
+
+    fn sum(lent: &Vec<Record>) -> i64 {
+        lent[0].bound
+    }
+}
+
+pub type Reporter = unsafe extern "C" fn(*const u8, usize, *mut u8, usize) -> i64;
+
+impl Call for Reporter {
+    type Input = Vec<u8>;
+    type Lent = Vec<u8>;
+
+    fn cleared(_: &Vec<u8>) -> Vec<u8> {
+        vec![b'?'; REPORT_MAX_BYTES]
+    }
+
+    fn call(self, sheet: &Vec<u8>, lent: &mut Vec<u8>) -> i64 {
+        // SAFETY: the pointers and the lengths are those of the sheet and of the buffer.
+        unsafe { self(sheet.as_ptr(), sheet.len(), lent.as_mut_ptr(), lent.len()) }
+    }
+
+    fn sum(lent: &Vec<u8>) -> i64 {
+        lent[lent.len() / 2].into()
     }
 }
 

@@ -9,6 +9,7 @@ pub mod instants;
 pub mod labels;
 #[cfg(lengths)]
 pub mod lengths;
+pub mod sheets;
 pub mod transport;
 pub mod weeks;
 

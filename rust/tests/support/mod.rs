@@ -1,16 +1,20 @@
-//! What the tests share: an independent implementation of document 01, the form of answers, random numbers and numbers that
-//! are worth trying.
+//! What the tests share: an independent implementation of document 01 and its changes, the form of answers, random numbers, and
+//! numbers and claims that are worth trying.
 #![allow(dead_code)] // each test file uses its own part
 
 pub mod answer;
 pub mod plain;
+pub mod plain_sheets;
 pub mod plain_weeks;
 pub mod random;
 
 use answer::Answer::{self, Refused};
 use answer::{answer, Refusing};
-use plain::LABEL_BYTES;
+use ovenquill::Constants;
+use plain::{LABEL_BYTES, LARGEST, LAST_BOUND};
+use plain_sheets::Numbers;
 use plain_weeks::WEEK_LABEL_BYTES;
+use random::Random;
 
 /// The numbers within 2 of each power of two and its negative, of 0 and of the ends of the signed 64-bit numbers.
 pub fn powers() -> Vec<i64> {
@@ -61,4 +65,32 @@ pub fn try_writing<E: Refusing>(
     let mut expected = vec![fill; length];
     assert_eq!(result, plain(number, &mut expected), "{number} in {length} bytes");
     assert_eq!(bytes, expected, "{number} in {length} bytes");
+}
+
+/// A claim that is right as often as each of what it may be turned down or refused for.
+pub fn some_claim(random: &mut Random) -> Numbers {
+    let (a, d) = (random.choose(&[1, 1, 1, 3, 1023]), random.within(1, 60));
+    let k = random.within(0, 20);
+    let m = ((a << k) / d + random.within(0, 1)).min(LARGEST.m);
+    let (b, c) = random.choose(&[(0, 0), (0, 0), (1, (1 << k) / d), (3, 0), (0, 5)]);
+    let q = Constants { a, b, d, m, c, k, t: random.choose(&[0, 0, 0, 1, 255]) };
+    let least = plain::walk(q, LAST_BOUND).unwrap_or(LAST_BOUND);
+    let below = random.within(0, least);
+    let above = random.of_any_size(least, LAST_BOUND);
+    let bound = random.choose(&[least, least, below, (least - 1).max(0), above, (least + 1).min(LAST_BOUND)]);
+    let mut numbers = [q.a, q.b, q.d, q.m, q.c, q.k, q.t, bound].map(|number| number as u32);
+    if random.within(0, 4) == 0 {
+        let (place, outside) = random.choose(&[
+            (0, 0),
+            (0, LARGEST.a + 1),
+            (1, LARGEST.b + 1),
+            (2, 0),
+            (2, LARGEST.d + 1),
+            (5, LARGEST.k + 1),
+            (6, LARGEST.t + 1),
+            (7, LAST_BOUND + 1),
+        ]);
+        numbers[place] = outside as u32;
+    }
+    numbers
 }
