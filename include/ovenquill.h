@@ -212,7 +212,7 @@ static inline const char *ovenquill_refusal_text(int64_t answer)
         return "position below " OVENQUILL_TEXT_(OVENQUILL_FIRST_POSITION_)
                " or above " OVENQUILL_TEXT_(OVENQUILL_LAST_POSITION_);
     case OVENQUILL_BUFFER_TOO_SHORT:
-        return "buffer shorter than the label";
+        return "buffer shorter than the label, the sheet or the report";
     case OVENQUILL_MALFORMED_LABEL:
         return "label not " OVENQUILL_TEXT_(OVENQUILL_INSTANT_LABEL_BYTES) " bytes, of a week date not "
                OVENQUILL_TEXT_(OVENQUILL_WEEK_LABEL_BYTES)
@@ -237,7 +237,7 @@ static inline const char *ovenquill_refusal_text(int64_t answer)
         return "week that its year does not have, or weekday outside "
                OVENQUILL_RANGE_TEXT_(OVENQUILL_MONDAY, OVENQUILL_SUNDAY);
     case OVENQUILL_MALFORMED_SHEET:
-        return "sheet of another form, or a record that it does not have";
+        return "bytes that are no sheet, a note and numbers that make none, or a record that is not there";
     default:
         return answer < 0 ? "unknown refusal" : "not refused";
     }

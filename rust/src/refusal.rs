@@ -120,7 +120,7 @@ refusals! {
     /// A position outside [`POSITIONS`].
     PositionOutOfRange = 6, ("position below {} or above {}", POSITIONS.start(), POSITIONS.end());
     /// A buffer with fewer bytes than the label, or than the sheet of constants or the report on one.
-    BufferTooShort = 7, ("buffer shorter than the label");
+    BufferTooShort = 7, ("buffer shorter than the label, the sheet or the report");
     /// A label of another length or shape than the writer's; but its T and Z may be small.
     MalformedLabel = 8, (
         "label not {INSTANT_LABEL_BYTES} bytes, of a week date not {WEEK_LABEL_BYTES}, a non-digit where a digit stands, \
@@ -158,7 +158,7 @@ refusals! {
     );
     /// Bytes that are no sheet of constants, a place where a sheet has no record, or a note and numbers that make no sheet
     /// ([`sheet`](crate::sheet)).
-    MalformedSheet = 17, ("sheet of another form, or a record that it does not have");
+    MalformedSheet = 17, ("bytes that are no sheet, a note and numbers that make none, or a record that is not there");
 }
 
 impl Error for Refusal {}

@@ -245,5 +245,5 @@ fn errors_that_hand_back_more() {
     assert_eq!(error, check_bound(CONSTANTS, 79).unwrap_err());
     let error: ClaimError = sheet::check(b"", 0).unwrap_err();
     assert_eq!((error.refusal, error.least), (Refusal::MalformedSheet, None));
-    assert_eq!(error.to_string(), "sheet of another form, or a record that it does not have");
+    assert_eq!(error.to_string(), "bytes that are no sheet, a note and numbers that make none, or a record that is not there");
 }

@@ -15,7 +15,7 @@ abbrev pub writeOutcome : WriteAnswer → Outcome ℕ
 writeOutcome (W.Written n) = value n
 writeOutcome (W.Refused r) = refused (refusalNumber r)
 
--- the label that is written: 7 for a buffer shorter than the label
+-- the text that is written: 7 for a buffer shorter than it
 abbrev pub fitted : Outcome (List ℕ) → (buffer : List ℕ) → Outcome (List ℕ)
 fitted label buffer = andThen label (λ text. cond (ltb (length buffer) (length text)) (refused 7) (value text))
 

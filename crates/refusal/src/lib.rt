@@ -19,7 +19,7 @@ pub enum Refusal {
     TimeOutOfRange,
     // 6: position outside its range
     PositionOutOfRange,
-    // 7: buffer shorter than the label
+    // 7: buffer shorter than the label, the sheet or the report
     BufferTooShort,
     // 8: label of another shape
     MalformedLabel,
@@ -39,7 +39,7 @@ pub enum Refusal {
     OutOfOrder,
     // 16: week that its year does not have, or weekday outside 1..7
     WeekOutOfRange,
-    // 17: sheet of another form, or a record that it does not have
+    // 17: bytes that are no sheet, a note and numbers that make none, or a record that is not there
     MalformedSheet,
 }
 
