@@ -115,7 +115,7 @@ test-rust: $(LIB) $(CHRONO)
 # The benchmarks compare the two ways to a month's length, so they link a second archive that has both.
 LENGTHS := build/lengths/libovenquill_lengths.a
 
-$(LENGTHS): $(LIB) tools/build_lengths
+$(LENGTHS): $(LIB) tools/build_lengths | $(CHECK_SHEET)
 	tools/build_lengths $(LIB) $@
 
 # In the benchmarks every function begins at a multiple of 64 bytes, so that none gains by where in 64 bytes it begins.

@@ -664,7 +664,8 @@ int64_t ovenquill_sheet_write(const uint8_t *note, size_t note_length, const uin
  * in order: its place, a space, and `accepted`, `9`, `10` with a space and the least n, or `11`, by the number that
  * ovenquill_sheet_check answers there. A sheet without records has no line, and the answer is 0. Bytes that are no sheet have
  * the one line `17`, which is text and no refusal. Every line ends with a newline; no zero byte is written after the last one,
- * and the bytes after it are unchanged. The time is that of checking the claims.
+ * and the bytes after it are unchanged. The time is that of checking the claims, and twice that for a buffer in which the longest
+ * report has no room.
  *
  * OVENQUILL_SHEET_REPORT_MAX_BYTES bytes always suffice. The program check_sheet, which `make install` installs too, prints
  * this text for the sheet on its standard input.

@@ -1,6 +1,6 @@
 -- What the exported calls return, and what they leave in the places that the caller hands in: document 01, "What the label desk gets":
 -- the value, "or the refusal number negated". A value that may be below zero, or is more than one number, goes to a place instead, and
--- the call then returns 0. What such a place holds after a call is `afterCall` of the call's answer; a place or least n that a refusal
+-- the call then returns 0, or what else is never below zero. What such a place holds after a call is `afterCall` of the call's answer; a place or least n that a refusal
 -- hands back has a place of its own (`afterRefusal`).
 use Prim.Native.Nat.{ℕ}
 use mathlib.Core.Path.{_≡_}
@@ -62,7 +62,7 @@ fieldsNumbers f = f .year ∷ f .month ∷ f .day ∷ f .hour ∷ f .minute ∷ 
 abbrev pub cueNumbers : Cue → List ℤ
 cueNumbers c = c .start ∷ c .end ∷ []
 
--- a sheet: the number of records is returned, and the length of the note goes to a place; and the eight numbers of a record
+-- of a sheet the number of records is returned, and the length of the note goes to a place
 abbrev pub returnedRecords : Outcome Contents → ℤ
 returnedRecords answer = returned (mapValue (λ c. pos (c .records)) answer)
 

@@ -1,5 +1,6 @@
 // The C interface: include/ovenquill.h declares these calls, and says of each what it is for C. Each returns its value, or the
-// refusal number negated; a value that may be below zero, or is more than one number, goes to a place, and the call then returns 0.
+// refusal number negated; a value that may be below zero, or is more than one number, goes to a place, and the call then returns 0 or,
+// of a sheet, the number of its records.
 //
 //     ovenquill_days_from_civil(year, month, day, days)                       0, and the day count
 //     ovenquill_civil_from_days(days, date)                                   0, and year, month, day
@@ -43,7 +44,7 @@ ghost use Rattle.labels.specs.Webvtt.{positionLabel};
 ghost use Rattle.labels.specs.Timestamps.{positionAnswer};
 ghost use Rattle.labels.specs.Cues.{cueLineAnswer};
 ghost use Rattle.constants.specs.Answers.{differenceAnswer, boundAnswer};
-ghost use Rattle.sheet.specs.Answers as sheets;
+ghost use Rattle.sheet.specs.Answers as answers;
 ghost use Rattle.sheet.specs.Report.{reportText};
 ghost use Rattle.transport.specs.Answers.{followAnswer, followAllAnswer};
 ghost use lib.IntN.{pos};
@@ -268,32 +269,32 @@ pub extern "C" fn ovenquill_check_bound(
 
 #[no_mangle]
 pub extern "C" fn ovenquill_sheet_read(sheet: &[u8], note_length: &mut i64) -> i64
-    ensures answer { λ r. ⌜ r ≡ returnedRecords (sheets.readAnswer (now (sheet .entry))) ⌝ }
-    ensures place { λ r. ⌜ now («note_length» .exit) ≡ afterCall (sheets.readAnswer (now (sheet .entry))) noteLength (now («note_length» .entry)) ⌝ }
+    ensures answer { λ r. ⌜ r ≡ returnedRecords (answers.readAnswer (now (sheet .entry))) ⌝ }
+    ensures place { λ r. ⌜ now («note_length» .exit) ≡ afterCall (answers.readAnswer (now (sheet .entry))) noteLength (now («note_length» .entry)) ⌝ }
 {
     sheets::contents(sheet::read(sheet), note_length)
 }
 
 #[no_mangle]
 pub extern "C" fn ovenquill_sheet_record(sheet: &[u8], place: i64, record: &mut [i64; 8]) -> i64
-    ensures answer { λ r. ⌜ r ≡ returnedDone (sheets.recordAnswer (now (sheet .entry)) place) ⌝ }
-    ensures numbers { λ r. ⌜ now («record» .exit) ≡ afterCall (sheets.recordAnswer (now (sheet .entry)) place) recordNumbers (now («record» .entry)) ⌝ }
+    ensures answer { λ r. ⌜ r ≡ returnedDone (answers.recordAnswer (now (sheet .entry)) place) ⌝ }
+    ensures numbers { λ r. ⌜ now («record» .exit) ≡ afterCall (answers.recordAnswer (now (sheet .entry)) place) recordNumbers (now («record» .entry)) ⌝ }
 {
     sheets::numbers(sheet::record(sheet, place), record)
 }
 
 #[no_mangle]
 pub extern "C" fn ovenquill_sheet_check(sheet: &[u8], place: i64, least: &mut i64) -> i64
-    ensures answer { λ r. ⌜ r ≡ returnedDone (sheets.checkAnswer (now (sheet .entry)) place) ⌝ }
-    ensures least { λ r. ⌜ now (least .exit) ≡ afterRefusal (sheets.checkAnswer (now (sheet .entry)) place) (now (least .entry)) ⌝ }
+    ensures answer { λ r. ⌜ r ≡ returnedDone (answers.checkAnswer (now (sheet .entry)) place) ⌝ }
+    ensures least { λ r. ⌜ now (least .exit) ≡ afterRefusal (answers.checkAnswer (now (sheet .entry)) place) (now (least .entry)) ⌝ }
 {
     give::claim(sheet::check_record(sheet, place), least)
 }
 
 #[no_mangle]
 pub extern "C" fn ovenquill_sheet_write(note: &[u8], numbers: &[u32], out: &mut [u8]) -> i64
-    ensures answer { λ r. ⌜ r ≡ returnedCount (bytesWritten (sheets.sheetText (now (note .entry)) (now (numbers .entry))) (now (out .entry))) ⌝ }
-    ensures buffer { λ r. ⌜ now (out .exit) ≡ writtenBuffer (sheets.sheetText (now (note .entry)) (now (numbers .entry))) (now (out .entry)) ⌝ }
+    ensures answer { λ r. ⌜ r ≡ returnedCount (bytesWritten (answers.sheetText (now (note .entry)) (now (numbers .entry))) (now (out .entry))) ⌝ }
+    ensures buffer { λ r. ⌜ now (out .exit) ≡ writtenBuffer (answers.sheetText (now (note .entry)) (now (numbers .entry))) (now (out .entry)) ⌝ }
 {
     give::returned_bytes(sheet::write(note, numbers, out))
 }

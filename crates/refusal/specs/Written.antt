@@ -17,12 +17,12 @@ writeOutcome (W.Refused r) = refused (refusalNumber r)
 
 -- the text that is written: 7 for a buffer shorter than it
 abbrev pub fitted : Outcome (List ℕ) → (buffer : List ℕ) → Outcome (List ℕ)
-fitted label buffer = andThen label (λ text. cond (ltb (length buffer) (length text)) (refused 7) (value text))
+fitted written buffer = andThen written (λ text. cond (ltb (length buffer) (length text)) (refused 7) (value text))
 
--- the refusals of the label, then 7; else the number of bytes written
+-- the refusals of the text, then 7; else the number of bytes written
 abbrev pub bytesWritten : Outcome (List ℕ) → (buffer : List ℕ) → Outcome ℕ
-bytesWritten label buffer = mapValue length (fitted label buffer)
+bytesWritten written buffer = mapValue length (fitted written buffer)
 
--- the buffer after the call: the label in front and the rest as it was; all as it was on a refusal
+-- the buffer after the call: the text in front and the rest as it was; all as it was on a refusal
 abbrev pub writtenBuffer : Outcome (List ℕ) → (buffer : List ℕ) → List ℕ
-writtenBuffer label buffer = afterCall (fitted label buffer) (λ text. text ++ drop (length text) buffer) buffer
+writtenBuffer written buffer = afterCall (fitted written buffer) (λ text. text ++ drop (length text) buffer) buffer

@@ -1,5 +1,5 @@
-// The numbered refusals of document 01, "The numbered refusals", those that document 02 adds, and the answer of a number or a refusal
-// that the crates share.
+// The numbered refusals of document 01, "The numbered refusals", those that document 02 adds, and the answers that the crates share:
+// a number or a refusal, and what a writer answers.
 //
 //     number(refusal)        its number, 1 to 17
 

@@ -2,7 +2,8 @@
 use Prim.Native.Nat.{ℕ, _+_, _-_, _*_, _%_, _≤_}
 use mathlib.Core.Path.{_≡_, refl, sym, ap}
 use mathlib.Core.List.{List}
-use mathlib.Core.Bool.{Bool, true, false, not, _||_}
+use mathlib.Core.Logic.{_⊎_, inl, inr}
+use mathlib.Core.Bool.{Bool, true, false, cond, not, _||_}
 use native.Mathlib.Omega.{arith}
 use borrow.Author.Tests.{ltb-true, ltb-false, lt-ltb, le-ltb, eqb-true, eq-eqb, not-false}
 use lib.Dec.{eqb, ltb}
@@ -61,3 +62,11 @@ module _ (note numbers : List ℕ) where
   pub text-is : unfit (length note) (length numbers) ≡ false → value (sheetBytes note numbers) ≡ sheetText note numbers
   unfolding sheetText
   text-is h = rw h
+
+  pub refused-or-written : (sheetText note numbers ≡ refused 17) ⊎ (sheetText note numbers ≡ value (sheetBytes note numbers))
+  unfolding sheetText
+  refused-or-written = go (unfit (length note) (length numbers))
+    where
+      go : (t : Bool) → let o = cond t (refused 17) (value (sheetBytes note numbers)) in (o ≡ refused 17) ⊎ (o ≡ value (sheetBytes note numbers))
+      go true = inl refl
+      go false = inr refl

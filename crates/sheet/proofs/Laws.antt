@@ -19,7 +19,7 @@ use Rattle.sheet.specs.declared.Contents.{Contents}
 use Rattle.sheet.specs.Sheet.{trailer, numbersBytes, sheetBytes, IsSheet}
 use Rattle.sheet.specs.Answers.{numberAt, offset, records, readAnswer, claimAt, recordAnswer, verdict, checkAnswer, claimOf, unfit, sheetText}
 use Rattle.sheet.specs.Report.{newline, line, linesOf, reportText, claimLines}
-use Rattle.sheet.proofs.Fitting.{Fit, fit, fits-so, text-is}
+use Rattle.sheet.proofs.Fitting.{Fit, fit, fits-so, text-is, refused-or-written}
 use Rattle.sheet.proofs.NumberBytes.{numbers-append, sheet-length}
 use Rattle.sheet.proofs.Trailer.{contentsOf, opened, is-opened, refused-or-read, in-place, record-in, check-in}
 use Rattle.sheet.proofs.LineTexts.{lines-short, report-refused, report-lines}
@@ -140,6 +140,14 @@ module _ {sheet note numbers : List ℕ} (s : IsSheet sheet note numbers) where
   pub report-verdicts : reportText sheet ≡ claimLines numbers (length numbers / 8)
   report-verdicts = sym (report-lines sheet sheet-reads) ∙ first-lines (length numbers / 8) (omega arith)
 
+-- the same of what is written
+pub write-read :
+    (note numbers : List ℕ) {sheet : List ℕ} → AllLe 4294967295 numbers → sheetText note numbers ≡ value sheet →
+    (readAnswer sheet ≡ value (contentsOf (length numbers / 8) (length note)))
+    × ((take (length note) sheet ≡ note)
+    × ((place : ℕ) → place < length numbers / 8 → recordAnswer sheet (pos place) ≡ value (claimOf numbers place)))
+write-read note numbers small e = let s = written-is-sheet note numbers small e in (sheet-reads s, (note-back s, record-back s))
+
 -- a sheet has one note and one list of numbers
 pub one-note-and-numbers :
     {sheet note numbers note′ numbers′ : List ℕ} → IsSheet sheet note numbers → IsSheet sheet note′ numbers′ → (note ≡ note′) × (numbers ≡ numbers′)
@@ -211,6 +219,15 @@ seventeen-exactly sheet bytes =
     (λ e note numbers s. clash (both e (sheet-reads s)), λ none. ⊎-elim (λ e. e) (λ c. absurd (none _ _ (read-is-sheet sheet bytes (c .1)))) (refused-or-read sheet))
   where
     both : {contents : Contents} → readAnswer sheet ≡ refused 17 → readAnswer sheet ≡ value contents → _≡_ {A = ℕ} 0 1
+    both e f = cc
+
+-- and the writer's, exactly if there is no sheet with the note and the numbers
+pub writer-seventeen-exactly :
+    (note numbers : List ℕ) → AllLe 4294967295 numbers → (sheetText note numbers ≡ refused 17) ↔ ((sheet : List ℕ) → IsSheet sheet note numbers → ⊥)
+writer-seventeen-exactly note numbers small =
+    (λ e sheet s. clash (both e (sheet-is-written s)), λ none. ⊎-elim (λ e. e) (λ e. absurd (none _ (written-is-sheet note numbers small e))) (refused-or-written note numbers))
+  where
+    both : {sheet : List ℕ} → sheetText note numbers ≡ refused 17 → sheetText note numbers ≡ value sheet → _≡_ {A = ℕ} 0 1
     both e f = cc
 
 -- ---- 18,346 bytes always suffice

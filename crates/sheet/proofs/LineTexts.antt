@@ -57,7 +57,7 @@ lines-grow sheet i (suc n) h = go (decLt i (suc n)) (λ l. lines-grow sheet i n 
 
 -- ---- the longest report
 
-pub verdict-short : (claim : Claim) → length (verdictText (verdict claim)) ≤ 13
+verdict-short : (claim : Claim) → length (verdictText (verdict claim)) ≤ 13
 unfolding verdict
 verdict-short claim =
     claim-cases _ _ _ _ _ _ _ (pos (claim .bound)) (λ o. length (verdictText o) ≤ 13) (few 9 (lit< tt))

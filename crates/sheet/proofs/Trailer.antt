@@ -51,7 +51,6 @@ module _ (sheet : List ℕ) where
 -- what is known of a sheet that was read
 pub record Opened (sheet : List ℕ) (contents : Contents) : Type 0 where
   pub is-sheet : noSheet sheet ≡ false
-  pub contents-are : contents ≡ contentsOf (records sheet) (offset sheet)
   pub records-are : contents .records ≡ records sheet
   pub offset-is : contents .offset ≡ offset sheet
   pub length-le : length sheet ≤ 65536
@@ -72,7 +71,6 @@ opened sheet {contents} = go (noSheet sheet) refl
         let v = or-no (ltb 1024 (records sheet)) _ (u .0) in
         record {
           is-sheet = h;
-          contents-are = same;
           records-are = ap (λ c. c .records) same;
           offset-is = ap (λ c. c .offset) same;
           length-le = length-in sheet (t .0) .0;

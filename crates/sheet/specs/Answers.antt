@@ -79,7 +79,7 @@ verdict r = boundAnswer (pos (r .a)) (pos (r .b)) (pos (r .d)) (pos (r .m)) (pos
 unfoldable pub checkAnswer : (sheet : List ℕ) (place : ℤ) → Outcome Acceptance
 checkAnswer sheet place = andThen (recordAnswer sheet place) verdict
 
--- the record at a place of a list of numbers, eight to a record
+-- for theorems: the record at a place of a list of numbers, eight to a record
 unfoldable pub claimOf : (numbers : List ℕ) (place : ℕ) → Claim
 claimOf numbers place =
     record {

@@ -27,16 +27,18 @@ verdictText (refusedAt number n) = decimal number ++ space ++ decimal n
 abbrev pub line : (place : ℕ) → Outcome Acceptance → List ℕ
 line place outcome = decimal place ++ space ++ verdictText outcome ++ newline
 
--- "one line for each record in order": those of the first records
+-- "one line for each record in order": those of the first places, of the answers to them
+abbrev pub linesUpTo : (answers : ℕ → Outcome Acceptance) (count : ℕ) → List ℕ
+linesUpTo answers zero = []
+linesUpTo answers (suc i) = linesUpTo answers i ++ line i (answers i)
+
 unfoldable pub linesOf : (sheet : List ℕ) (count : ℕ) → List ℕ
-linesOf sheet zero = []
-linesOf sheet (suc i) = linesOf sheet i ++ line i (checkAnswer sheet (pos i))
+linesOf sheet count = linesUpTo (λ i. checkAnswer sheet (pos i)) count
 
 -- "A refused sheet prints the one line `17`"
 unfoldable pub reportText : (sheet : List ℕ) → List ℕ
 reportText sheet = cond (noSheet sheet) (decimal 17 ++ newline) (linesOf sheet (records sheet))
 
--- the lines of the first of some records, which are written as numbers: each has the checker's answer to it
+-- for theorems: the lines of the checker's answers to records that are given as numbers
 unfoldable pub claimLines : (numbers : List ℕ) (count : ℕ) → List ℕ
-claimLines numbers zero = []
-claimLines numbers (suc i) = claimLines numbers i ++ line i (verdict (claimOf numbers i))
+claimLines numbers count = linesUpTo (λ i. verdict (claimOf numbers i)) count

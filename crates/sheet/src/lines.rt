@@ -63,7 +63,7 @@ fn put_lines(sheet: &[u8], contents: Contents, out: &mut [u8]) -> usize
     let mut at = 0;
     let mut place = 0;
     while place < records {
-        at = put_line(out, at, place, judge(sheet, contents, place));
+        at = put_line(out, at, place, judge_at(sheet, contents, place));
         place += 1;
     }
     at
@@ -77,14 +77,14 @@ fn lines_length(sheet: &[u8], contents: Contents) -> usize
     let mut total = 0;
     let mut place = 0;
     while place < records {
-        total += line_length(place, judge(sheet, contents, place));
+        total += line_length(place, judge_at(sheet, contents, place));
         place += 1;
     }
     total
 }
 
 // The checker's answer to the record at a place.
-fn judge(sheet: &[u8], contents: Contents, place: usize) -> ClaimAnswer
+fn judge_at(sheet: &[u8], contents: Contents, place: usize) -> ClaimAnswer
     requires { ⌜ (readAnswer (now sheet) ≡ value contents) × (place < contents .records) ⌝ }
     ensures { λ r. ⌜ claimOutcome r ≡ checkAnswer (now (sheet .entry)) (pos place) ⌝ }
 {

@@ -5,9 +5,9 @@ use mathlib.Core.Bool.{Bool, true, false, cond, _&&_, and-true, and-assoc}
 use mathlib.Core.List.{List, [], _∷_, _++_, append-nil}
 use native.Mathlib.Nat.{pow-zero, pow-suc, div-div-eq-div-mul, mul-comm}
 use native.Mathlib.Omega.{arith}
-use borrow.Author.Tests.{leb-true, le-leb, lt-ltb, le-ltb}
+use borrow.Author.Tests.{ltb-true, ltb-false, leb-true, le-leb, lt-ltb, le-ltb}
 use lib.Dec.{leb, ltb, lit<}
-use lib.ListN.{length, set, drop, length-append, drop-of-length-le}
+use lib.ListN.{length, getD, List·getD-append, set, drop, length-append, drop-of-length-le}
 use lib.Seq.{append-snoc, drop-append-le}
 use Rattle.numbers.proofs.Bools.{and-left, and-right}
 use Rattle.text.specs.Filled.{filled}
@@ -101,6 +101,39 @@ from-digits (suc turns) n = with-last n turns (ltb n 10) (from-digits turns (n /
 pub decimal-digits : (n : ℕ) {count : ℕ} → count ≡ length (decimal n) → decimal n ≡ digits n count
 unfolding decimal
 decimal-digits n e = from-digits n n ∙ ap (digits n) (sym e)
+
+-- it is the number's, and does not begin with a zero but for 0 itself
+from-number : (turns n : ℕ) → n ≤ turns → number (decimalFrom turns n) ≡ n
+from-number zero n h = omega arith
+from-number (suc turns) n h = go (ltb n 10) refl (from-number turns (n / 10) (omega arith))
+  where
+    go : (small : Bool) → ltb n 10 ≡ small → number (decimalFrom turns (n / 10)) ≡ n / 10 → number (others n turns small ++ (48 + n % 10) ∷ []) ≡ n
+    go true e f = omega (arith, ltb-true n 10 e)
+    go false e f = from-append 0 (decimalFrom turns (n / 10)) ((48 + n % 10) ∷ []) ∙ omega arith
+
+pub decimal-number : (n : ℕ) → number (decimal n) ≡ n
+unfolding decimal
+decimal-number n = from-number n n (omega arith)
+
+from-some : (turns n : ℕ) → 1 ≤ length (decimalFrom turns n)
+from-some zero n = omega arith
+from-some (suc turns) n = omega (arith, length-append (others n turns (ltb n 10)) ((48 + n % 10) ∷ []))
+
+from-first : (turns n : ℕ) → 1 ≤ n → n ≤ turns → 48 < getD (decimalFrom turns n) 0 0
+from-first zero n some h = absurd (omega arith)
+from-first (suc turns) n some h = go (ltb n 10) refl (λ l. from-first turns (n / 10) l (omega arith))
+  where
+    go :
+        (small : Bool) → ltb n 10 ≡ small → (1 ≤ n / 10 → 48 < getD (decimalFrom turns (n / 10)) 0 0) →
+        48 < getD (others n turns small ++ (48 + n % 10) ∷ []) 0 0
+    go true e f = omega (arith, ltb-true n 10 e)
+    go false e f =
+        let tens = ltb-false n 10 e in
+        omega (arith, f (omega arith), List·getD-append (decimalFrom turns (n / 10)) ((48 + n % 10) ∷ []) 0 0 (from-some turns (n / 10)))
+
+pub no-zero-in-front : (n : ℕ) → 1 ≤ n → 48 < getD (decimal n) 0 0
+unfolding decimal
+no-zero-in-front n some = from-first n n some (omega arith)
 
 -- how many digits it has
 count-below : (count : ℕ) → count < 10 ^ count

@@ -18,8 +18,7 @@ numberFrom so-far (byte ∷ bytes) = numberFrom (so-far * 10 + (byte - 48)) byte
 abbrev pub number : List ℕ → ℕ
 number = numberFrom 0
 
--- a number without leading zeros: its last digit, behind the digits of its tens where it has any; no number has more digits than
--- the number itself and one
+-- a number without leading zeros: its last digit, behind the digits of its tens where it has any, in as many turns as n suffices for
 abbrev pub decimalFrom : (turns n : ℕ) → List ℕ
 decimalFrom zero n = (48 + n % 10) ∷ []
 decimalFrom (suc turns) n = cond (ltb n 10) [] (decimalFrom turns (n / 10)) ++ (48 + n % 10) ∷ []

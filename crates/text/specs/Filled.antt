@@ -1,5 +1,5 @@
--- A lent buffer after some of its bytes were stored, for proofs and the contracts of what is put piece by piece only: nobody has to
--- believe them.
+-- A lent buffer after some of its bytes were stored: what the calls of this crate put, and else for proofs and private contracts. What
+-- users reach says it by `writtenBuffer`, so that none of them has to believe it.
 use Prim.Native.Nat.{ℕ, _+_}
 use mathlib.Core.Path.{_≡_}
 use mathlib.Core.Bool.{Bool, cond}

@@ -1,4 +1,4 @@
 pub mod Decimal
 pub mod Words
--- What only proofs and private contracts need.
+-- What the calls of this crate put, and what only proofs and private contracts need.
 pub mod Filled

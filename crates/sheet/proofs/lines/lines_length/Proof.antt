@@ -18,8 +18,8 @@ abbrev μ-loop : tie.MeasureT-loop
 loop-holds : tie.Need-loop-holds Inv-loop μ-loop
 loop-holds c = (omega arith, ap length (no-lines (c .before .args .sheet .now)))
 
-judge-requires : tie.Need-judge-requires Inv-loop μ-loop
-judge-requires c κs = (c .before .before .before .pre, c .loop-test .taken)
+judge-at-requires : tie.Need-judge-at-requires Inv-loop μ-loop
+judge-at-requires c κs = (c .before .before .before .pre, c .loop-test .taken)
 
 line-length-requires : tie.Need-line-length-requires Inv-loop μ-loop
 line-length-requires c κs = tt
@@ -30,9 +30,9 @@ module _ (c : tie.After-line-length Inv-loop μ-loop) where
   next =
       let l = c .before .before .before .loop in
       let sheet = c .before .before .before .before .before .args .sheet .now in
-      let o = claimOutcome (c .before .judge .result) in
+      let o = claimOutcome (c .before .judge-at .result) in
       omega (arith, l .inv .1, c .line-length .ensures .0, length-append (linesOf sheet (l .place)) (line (l .place) o))
-      ∙ ap length (lines-next sheet (l .place) (c .before .judge .ensures))
+      ∙ ap length (lines-next sheet (l .place) (c .before .judge-at .ensures))
 
 add-length : tie.Need-add-total Inv-loop μ-loop
 add-length c =
@@ -59,4 +59,4 @@ returns c =
 
 pub lines-length-spec : {M : Type 1} → statement M
 lines-length-spec =
-    tie.close (tie.spec Inv-loop μ-loop loop-holds judge-requires line-length-requires add-length add-place loop-less loop-again returns)
+    tie.close (tie.spec Inv-loop μ-loop loop-holds judge-at-requires line-length-requires add-length add-place loop-less loop-again returns)

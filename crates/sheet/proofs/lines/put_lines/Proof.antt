@@ -23,21 +23,21 @@ loop-holds c =
     let a = c .before .before .args in
     (omega arith, (refl, stored-as (no-lines (a .sheet .now)) (nothing-stored 0 (a .out .now))))
 
-judge-requires : tie.Need-judge-requires Inv-loop μ-loop
-judge-requires c κs = (c .before .before .before .before .before .pre .0, c .before .loop-test .taken)
+judge-at-requires : tie.Need-judge-at-requires Inv-loop μ-loop
+judge-at-requires c κs = (c .before .before .before .before .before .pre .0, c .before .loop-test .taken)
 
 put-line-requires : tie.Need-put-line-requires Inv-loop μ-loop
 put-line-requires c κs =
     let s = c .before .before .before .before .before .before in
     let l = c .before .before .before .loop in
     let sheet = s .args .sheet .now in
-    let o = claimOutcome (c .judge .result) in
+    let o = claimOutcome (c .judge-at .result) in
     omega (
       arith,
       l .inv .1 .0,
       l .inv .1 .1 .end-is,
       length-append (linesOf sheet (l .place)) (line (l .place) o),
-      ap length (lines-next sheet (l .place) (c .judge .ensures)),
+      ap length (lines-next sheet (l .place) (c .judge-at .ensures)),
       lines-grow sheet (l .place + 1) (s .args .contents .records) (omega arith),
       s .pre .1,
     )
@@ -52,7 +52,7 @@ loop-again : tie.Need-loop-again Inv-loop μ-loop
 loop-again c =
     let sheet = c .before .before .before .before .before .before .before .before .before .args .sheet .now in
     let l = c .before .before .before .before .before .before .loop in
-    let stored = stored-as (lines-next sheet (l .place) (c .before .before .before .judge .ensures)) (stored-then (l .inv .1 .1) (c .before .before .put-line .ensures)) in
+    let stored = stored-as (lines-next sheet (l .place) (c .before .before .before .judge-at .ensures)) (stored-then (l .inv .1 .1) (c .before .before .put-line .ensures)) in
     (omega arith, (stored-length stored, stored))
 
 same-length : tie.Need-same-length Inv-loop μ-loop
@@ -67,4 +67,4 @@ returns c =
 
 pub put-lines-spec : {M : Type 1} → statement M
 put-lines-spec =
-    tie.close (tie.spec Inv-loop μ-loop loop-holds judge-requires put-line-requires add-place loop-less loop-again same-length returns)
+    tie.close (tie.spec Inv-loop μ-loop loop-holds judge-at-requires put-line-requires add-place loop-less loop-again same-length returns)
