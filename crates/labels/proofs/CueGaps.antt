@@ -14,7 +14,7 @@ use Rattle.labels.specs.Digits.{fits}
 use Rattle.text.specs.Words.{word, bytesOf, partOf}
 use Rattle.labels.specs.CueLines.{arrow}
 use Rattle.labels.specs.Timings.{usualGap}
-use Rattle.text.proofs.Words.{bytes, all-bytes, part-length, part-le, part-three, part-four, part-five}
+use Rattle.text.proofs.Words.{bytes, all-bytes, part-length, part-le, part-three, part-four, part-more}
 
 module _ (line : List ℕ) (at : ℕ) (h : at + 5 ≤ length line) where
   abbrev x : ℕ
@@ -36,13 +36,13 @@ module _ (line : List ℕ) (at : ℕ) (h : at + 5 ≤ length line) where
   four = part-four at line (omega arith)
 
   by-bytes : fits usualGap (partOf at 5 line) ≡ eqb x 32 && (eqb y 45 && (eqb z 45 && (eqb w 62 && (eqb v 32 && true))))
-  by-bytes = ap (fits usualGap) (part-five at line h ∙ ap (λ l. l ++ v ∷ []) four)
+  by-bytes = ap (fits usualGap) (part-more at 4 line (omega arith) ∙ ap (λ l. l ++ v ∷ []) four)
 
   pub gap-there : ((i : ℕ) → Fits w8 (getD line i 0)) → {n : ℕ} → n ≡ word (partOf at 4 line) → n ≡ 1043148064 → eqb v 32 ≡ fits usualGap (partOf at 5 line)
   gap-there fit {n} e f =
       let l : partOf at 4 line ≡ 32 ∷ 45 ∷ 45 ∷ 62 ∷ [] =
       sym (all-bytes (partOf at 4 line) e (part-le 255 at 4 line (bytes line fit)) (part-length at 4 line (omega arith))) ∙ ap (bytesOf 4) f in
-      sym (ap (fits usualGap) (part-five at line h ∙ ap (λ l. l ++ v ∷ []) l) ∙ and-true (eqb v 32))
+      sym (ap (fits usualGap) (part-more at 4 line (omega arith) ∙ ap (λ l. l ++ v ∷ []) l) ∙ and-true (eqb v 32))
 
   pub no-gap : {n : ℕ} → n ≡ word (partOf at 4 line) → (n ≡ 1043148064 → ⊥) → eqb n 1043148064 ≡ fits usualGap (partOf at 5 line)
   no-gap {n} e never = ne-eqb n 1043148064 never ∙ sym (go (fits usualGap (partOf at 5 line)) refl)

@@ -20,7 +20,7 @@ use Rattle.labels.specs.PositionPieces.{hundredHours}
 use Rattle.labels.specs.Timestamps.{isClock, areHours, isTimestamp, hoursValue, positionOf}
 use Rattle.text.specs.Decimal.{allDigits}
 use Rattle.labels.specs.Stamps.{stampOf}
-use Rattle.text.proofs.Words.{bytes, all-bytes, part-length, part-le, part-two, part-four, part-five}
+use Rattle.text.proofs.Words.{bytes, all-bytes, part-length, part-le, part-two, part-four, part-more}
 use Rattle.text.proofs.Decimal.{from-append}
 use Rattle.labels.proofs.Shapes.{fits-append, zeros}
 use Rattle.labels.proofs.TimestampParts.{timestamp-cut, position-cut, clock-parts, hours-below}
@@ -47,7 +47,7 @@ module _ (text : List ℕ) (fit : (i : ℕ) → Fits w8 (getD text i 0)) (at : �
       omega (
         arith,
         e ∙ ap word (part-four at text (omega arith)),
-        ap word (part-five at text (omega arith) ∙ ap (λ l. l ++ getD text (at + 4) 0 ∷ []) (part-four at text (omega arith))),
+        ap word (part-more at 4 text (omega arith) ∙ ap (λ l. l ++ getD text (at + 4) 0 ∷ []) (part-four at text (omega arith))),
       ) in
       let low = part-le 255 at 5 text (bytes text fit) in
       let size : length (48 ∷ 48 ∷ 58 ∷ five) ≡ 8 = ap (λ n. suc (suc (suc n))) (part-length at 5 text (omega arith)) in

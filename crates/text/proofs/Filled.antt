@@ -8,7 +8,7 @@ use native.Mathlib.Omega.{arith}
 use borrow.Author.Tests.{not-true, not-false, leb-true, leb-false, le-leb, lt-leb}
 use lib.Dec.{leb}
 use lib.ListN.{length, set, take, drop, length-append}
-use lib.Seq.{set-comm, sets, length-sets, sets-eq, drop-drop, take-append-seam, drop-append-add}
+use lib.Seq.{set-set, set-comm, sets, length-sets, sets-eq, drop-drop, take-add, length-take-le, take-append-seam, drop-append-add}
 use Rattle.text.specs.Words.{partOf}
 use Rattle.text.specs.Filled.{filled, Stored, Begins, hasRoom, placeBehind, placed}
 use Rattle.text.proofs.Words.{part-length, part-two}
@@ -52,15 +52,42 @@ pub filled-byte : {k : ℕ} (at : ℕ) (a : List ℕ) (byte : ℕ) (buffer : Lis
 unfolding filled
 filled-byte at a byte buffer e = filled-more at a (byte ∷ []) buffer e
 
--- a byte in front of a piece
+-- a byte before a piece
+set-before : (k : ℕ) (a buffer : List ℕ) (at byte : ℕ) → at < k → set (sets buffer k a) at byte ≡ sets (set buffer at byte) k a
+set-before k [] buffer at byte h = refl
+set-before k (x ∷ a) buffer at byte h =
+    set-before (suc k) a (set buffer k x) at byte (omega arith) ∙ ap (λ l. sets l (suc k) a) (set-comm buffer k at x byte (λ e. omega (arith, e)))
+
+-- a byte right in front of a piece
 pub filled-after : (at : ℕ) (byte : ℕ) (a buffer : List ℕ) → set (filled (suc at) a buffer) at byte ≡ filled at (byte ∷ a) buffer
 unfolding filled
-filled-after at byte a buffer = go (suc at) a buffer (omega arith)
-  where
-    go : (k : ℕ) (a buffer : List ℕ) → at < k → set (sets buffer k a) at byte ≡ sets (set buffer at byte) k a
-    go k [] buffer h = refl
-    go k (x ∷ a) buffer h =
-        go (suc k) a (set buffer k x) (omega arith) ∙ ap (λ l. sets l (suc k) a) (set-comm buffer k at x byte (λ e. omega (arith, e)))
+filled-after at byte a buffer = set-before (suc at) a buffer at byte (omega arith)
+
+-- a piece over a piece that is no longer
+filled-over-shorter : (at : ℕ) (a b buffer : List ℕ) → length a ≤ length b → filled at b (filled at a buffer) ≡ filled at b buffer
+unfolding filled
+filled-over-shorter at [] b buffer h = refl
+filled-over-shorter at (x ∷ a) [] buffer h = absurd (omega arith)
+filled-over-shorter at (x ∷ a) (y ∷ b) buffer h =
+    ap (λ l. sets l (suc at) b) (set-before (suc at) a (set buffer at x) at y (omega arith) ∙ ap (λ l. sets l (suc at) a) (set-set buffer at x y))
+    ∙ filled-over-shorter (suc at) a b (set buffer at y) (omega arith)
+
+-- a part of a text over the end of its front
+pub filled-front-part :
+    (at : ℕ) (text : List ℕ) (k from size : ℕ) (before : List ℕ) {n : ℕ} {between after : List ℕ} → from ≤ k → k ≤ from + size → from + size ≡ n →
+    n ≤ length text → between ≡ filled at (take k text) before → after ≡ filled (at + from) (partOf from size text) between →
+    after ≡ filled at (take n text) before
+filled-front-part at text k from size before low high end within e f =
+    let front = take from text in
+    let over = partOf from (k - from) text in
+    let more = partOf from size text in
+    let s : from + (k - from) ≡ k = omega arith in
+    let place : at + length front ≡ at + from = ap (λ n. at + n) (length-take-le from text (omega arith)) in
+    let split : take k text ≡ front ++ over = ap (λ k. take k text) (sym s) ∙ take-add from (k - from) text in
+    f ∙ ap (filled (at + from) more) (e ∙ ap (λ l. filled at l before) split ∙ sym (filled-more at front over before place))
+    ∙ filled-over-shorter (at + from) over more (filled at front before) (omega (arith, part-length from (k - from) text (omega arith), part-length from size text (omega arith)))
+    ∙ filled-more at front more before place
+    ∙ ap (λ l. filled at l before) (sym (take-add from size text) ∙ ap (λ n. take n text) end)
 
 -- whether a piece has room, without a sum
 pub room-left : (length at count : ℕ) → at ≤ length → leb count (length - at) ≡ leb (at + count) length
@@ -124,6 +151,9 @@ unfolding filled
 filled-front text buffer h =
     let l : 0 + length text ≤ length buffer = omega arith in
     sets-eq text buffer 0 l ∙ ap (λ k. text ++ drop k buffer) (zero-add (length text))
+
+pub filled-front-read : (text before : List ℕ) {n : ℕ} {after : List ℕ} → length text ≡ n → n ≤ length before → after ≡ filled 0 text before → take n after ≡ text
+filled-front-read text before e h f = ap₂ take (sym e) (f ∙ filled-front text before (omega arith)) ∙ take-append-seam text (drop (length text) before)
 
 -- a buffer begins with what was stored at its front, and is as before behind that
 pub filled-begins :

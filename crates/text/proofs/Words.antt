@@ -102,6 +102,10 @@ part-two at m n text = take-add m n (drop at text) ∙ ap (λ l. partOf at m tex
 part-cons : (at n : ℕ) (text : List ℕ) → at < length text → partOf at (suc n) text ≡ getD text at 0 ∷ partOf (at + 1) n text
 part-cons at n text h = let e : suc at ≡ at + 1 = omega arith in ap (take (suc n)) (drop-cons text at 0 h) ∙ ap (λ j. getD text at 0 ∷ partOf j n text) e
 
+-- one byte more
+pub part-more : (at n : ℕ) (text : List ℕ) → at + n < length text → partOf at (n + 1) text ≡ partOf at n text ++ getD text (at + n) 0 ∷ []
+part-more at n text h = part-two at n 1 text ∙ ap (λ l. partOf at n text ++ l) (part-cons (at + n) 0 text h)
+
 pub part-three : (at : ℕ) (text : List ℕ) → at + 3 ≤ length text → partOf at 3 text ≡ getD text at 0 ∷ getD text (at + 1) 0 ∷ getD text (at + 2) 0 ∷ []
 part-three at text h =
     let e : at + 1 + 1 ≡ at + 2 = omega arith in
@@ -112,11 +116,7 @@ part-three at text h =
 pub part-four :
     (at : ℕ) (text : List ℕ) → at + 4 ≤ length text →
     partOf at 4 text ≡ getD text at 0 ∷ getD text (at + 1) 0 ∷ getD text (at + 2) 0 ∷ getD text (at + 3) 0 ∷ []
-part-four at text h =
-    part-two at 3 1 text ∙ ap₂ _++_ (part-three at text (omega arith)) (part-cons (at + 3) 0 text (omega arith))
-
-pub part-five : (at : ℕ) (text : List ℕ) → at + 5 ≤ length text → partOf at 5 text ≡ partOf at 4 text ++ getD text (at + 4) 0 ∷ []
-part-five at text h = part-two at 4 1 text ∙ ap (λ l. partOf at 4 text ++ l) (part-cons (at + 4) 0 text (omega arith))
+part-four at text h = part-more at 3 text (omega arith) ∙ ap (λ l. l ++ getD text (at + 3) 0 ∷ []) (part-three at text (omega arith))
 
 -- the numbers of four and of eight bytes
 pub four-word :

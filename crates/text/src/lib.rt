@@ -9,7 +9,11 @@ ghost use Prim.Native.Nat.{_+_, _≤_};
 ghost use lib.Dec.{leb};
 ghost use lib.ListN.{length};
 ghost use Rattle.text.specs.Decimal.{digits, decimal};
+ghost use Rattle.text.specs.Words.{partOf};
 ghost use Rattle.text.specs.Filled.{filled, placeBehind, placed};
+
+// Bytes of the longest block that is stored at once.
+const BLOCK: usize = 32;
 
 // Whether `count` bytes have room from byte `at` on.
 fn has_room(length: usize, at: usize, count: usize) -> bool
@@ -58,13 +62,67 @@ pub fn number_length(n: u64) -> usize
     count
 }
 
+// By blocks, so that none but the shortest pieces takes a step for each byte. The last block may go over bytes of the one before.
 fn store(out: &mut [u8], at: usize, piece: &[u8])
     requires { ⌜ at + length (now piece) ≤ length (now out) ⌝ }
     ensures { λ _. ⌜ now (out .exit) ≡ filled at (now (piece .entry)) (now (out .entry)) ⌝ }
 {
+    let count = piece.len();
+    if count >= BLOCK {
+        store_blocks(out, at, piece);
+    } else if count >= 16 {
+        store_ends(out, at, piece, 16);
+    } else if count >= 8 {
+        store_ends(out, at, piece, 8);
+    } else if count >= 4 {
+        store_ends(out, at, piece, 4);
+    } else {
+        store_part(out, at, piece, 0, count);
+    }
+}
+
+// A piece of at least one block, by whole blocks.
+fn store_blocks(out: &mut [u8], at: usize, piece: &[u8])
+    requires { ⌜ (32 ≤ length (now piece)) × (at + length (now piece) ≤ length (now out)) ⌝ }
+    ensures { λ _. ⌜ now (out .exit) ≡ filled at (now (piece .entry)) (now (out .entry)) ⌝ }
+{
+    let last = piece.len() - BLOCK;
     let mut i = 0;
-    while i < piece.len() {
-        out[at + i] = piece[i];
+    while i < last {
+        store_block(out, at, piece, i, BLOCK);
+        i += BLOCK;
+    }
+    store_block(out, at, piece, last, BLOCK);
+}
+
+// A piece that is as long as one block of some size, or two, or between: its first and its last block.
+fn store_ends(out: &mut [u8], at: usize, piece: &[u8], size: usize)
+    requires { ⌜ ((size ≤ 32) × ((size ≤ length (now piece)) × (length (now piece) ≤ size + size))) × (at + length (now piece) ≤ length (now out)) ⌝ }
+    ensures { λ _. ⌜ now (out .exit) ≡ filled at (now (piece .entry)) (now (out .entry)) ⌝ }
+{
+    store_block(out, at, piece, 0, size);
+    store_block(out, at, piece, piece.len() - size, size);
+}
+
+// The block of a piece from its byte `from` on, where it is to stand in a buffer that has the piece from byte `at` on. It is read before
+// it is stored, so that both take one step.
+fn store_block(out: &mut [u8], at: usize, piece: &[u8], from: usize, size: usize)
+    requires { ⌜ ((size ≤ 32) × (from + size ≤ length (now piece))) × (at + from + size ≤ length (now out)) ⌝ }
+    ensures { λ _. ⌜ now (out .exit) ≡ filled (at + from) (partOf from size (now (piece .entry))) (now (out .entry)) ⌝ }
+{
+    let mut block: [u8; 32] = [0; 32];
+    store_part(&mut block, 0, piece, from, size);
+    store_part(out, at + from, &block, 0, size);
+}
+
+// `count` bytes of a piece from its byte `from` on.
+fn store_part(out: &mut [u8], at: usize, piece: &[u8], from: usize, count: usize)
+    requires { ⌜ (from + count ≤ length (now piece)) × (at + count ≤ length (now out)) ⌝ }
+    ensures { λ _. ⌜ now (out .exit) ≡ filled at (partOf from count (now (piece .entry))) (now (out .entry)) ⌝ }
+{
+    let mut i = 0;
+    while i < count {
+        out[at + i] = piece[from + i];
         i += 1;
     }
 }

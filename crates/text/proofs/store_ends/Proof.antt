@@ -1,0 +1,39 @@
+use Prim.Native.Nat.{_+_, _-_}
+use mathlib.Core.Path.{_≡_, ap, _∙_}
+use native.Mathlib.Omega.{arith}
+use borrow.Author.Needs.{needs}
+use lib.ListN.{length, take}
+use lib.Seq.{take-length}
+use Rattle.text.specs.Filled.{filled}
+use Rattle.text.proofs.Filled.{filled-front-part}
+use Rattle.text.proofs.store_ends.Statement.{statement}
+use Rattle.text.proofs.store_ends.Tie as tie
+
+store-block-requires : tie.Need-store-block-requires
+store-block-requires c κs = search needs
+
+sub-store-block : tie.Need-sub-store-block
+sub-store-block c = search needs
+
+store-block-requires-2 : tie.Need-store-block-requires-2
+store-block-requires-2 c κs = search needs
+
+same-length : tie.Need-same-length
+same-length c = search needs
+
+returns : tie.Need-returns
+returns c =
+    let a = c .before .before .before .before .before .before .before .before .before .before .args in
+    let piece = a .piece .now in
+    let n = length piece in
+    let s : n - a .size + a .size ≡ n = omega arith in
+    let z : a .at + 0 ≡ a .at = omega arith in
+    let first = c .before .before .before .before .before .before .store-block .ensures
+    ∙ ap (λ k. filled k (take (a .size) piece) (a .out .now)) z in
+    filled-front-part (a .at) piece (a .size) (n - a .size) (a .size) (a .out .now) (omega arith) (omega arith) s (omega arith) first (c .before .before .store-block2 .ensures)
+    ∙ ap (λ t. filled (a .at) t (a .out .now)) (take-length piece)
+
+pub store-ends-spec : {M : Type 1} → statement M
+store-ends-spec =
+    tie.close
+    (tie.spec store-block-requires sub-store-block store-block-requires-2 same-length returns)
