@@ -89,9 +89,13 @@ fn trailer_misfits(offset: usize, records: usize, whole: usize, length: usize) -
     requires { ⌜ (offset < 2 ^ 32) × (records < 2 ^ 32) ⌝ }
     ensures { λ r. ⌜ r ≡ misfits offset records whole length ⌝ }
 {
-    (records > RECORDS_MOST)
-        | (whole != length)
-        | (offset + RECORD_LENGTH * records + TRAILER_LENGTH != length)
+    if records > RECORDS_MOST {
+        return true;
+    }
+    if whole != length {
+        return true;
+    }
+    offset + RECORD_LENGTH * records + TRAILER_LENGTH != length
 }
 
 // The eight numbers of the record at `place`, the first of which is 0.
