@@ -160,8 +160,8 @@ static int write_sheet(const char *note, const struct records *records)
                                             sizeof sheet);
     if (written < 0) {
         fprintf(stderr, "write_sheet: refused (%" PRId64 "): %s\n", -written, ovenquill_refusal_text(written));
-        fprintf(stderr, "write_sheet: the note has %zu bytes and there are %zu records, a sheet has at most %d bytes in all\n",
-                note_length, records->count / OVENQUILL_SHEET_RECORD_NUMBERS, OVENQUILL_SHEET_MAX_BYTES);
+        fprintf(stderr, "write_sheet: bytes of the note: %zu, of the records: %zu, of the trailer: %d; a sheet has at most %d in all\n",
+                note_length, records->count * sizeof *records->numbers, OVENQUILL_SHEET_TRAILER_BYTES, OVENQUILL_SHEET_MAX_BYTES);
         return 0;
     }
     fwrite(sheet, 1, (size_t)written, stdout);
@@ -191,7 +191,7 @@ int main(int argc, char **argv)
 {
     static struct records records;
     int done = 0;
-    if (argc == 2 && strcmp(argv[1], "--help") == 0) {
+    if (argc == 2 && (strcmp(argv[1], "--help") == 0 || strcmp(argv[1], "-h") == 0)) {
         print_usage(stdout);
         done = 1;
     } else if (argc > 2) {

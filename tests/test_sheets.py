@@ -363,9 +363,11 @@ def writing_of(note, numbers, room):
 
 
 def writings_to_try(numbers):
-    """Notes, numbers and lengths of buffers: small ones, and those around the most bytes and records."""
+    """Notes, numbers and lengths of buffers: small ones, notes of every length up to some blocks, and those around the most bytes and
+    records."""
     pairs = [(numbers.randint(0, 60), numbers.randint(0, 40)) for _ in range(600)]
     pairs += [(numbers.randint(0, 60), 8 * numbers.randint(0, 40)) for _ in range(600)]
+    pairs += [(note, count) for note in range(300) for count in (0, 8)]
     pairs += [(note, count) for count in (0, 1, 7, 8, 8184, 8188, 8191, 8192, 8193, 8196, 8199, 8200)
               for note in (0, 1, *range(MOST_BYTES - 4 * count - 14, MOST_BYTES - 4 * count - 9), MOST_BYTES, MOST_BYTES + 1)]
     for note_length, count in pairs:
