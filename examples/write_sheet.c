@@ -191,7 +191,7 @@ int main(int argc, char **argv)
 {
     static struct records records;
     int done = 0;
-    if (argc == 2 && (strcmp(argv[1], "--help") == 0 || strcmp(argv[1], "-h") == 0)) {
+    if (argc == 2 && strcmp(argv[1], "--help") == 0) {
         print_usage(stdout);
         done = 1;
     } else if (argc > 2) {

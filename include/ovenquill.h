@@ -613,9 +613,9 @@ int64_t ovenquill_check_bound(int64_t a, int64_t b, int64_t d, int64_t m, int64_
 
 /*
  * Reads a sheet. Answers the number of its records, 0 to OVENQUILL_SHEET_MAX_RECORDS, and writes the length of its note, which
- * is where its first record begins, to `note_length`. The `length` bytes are the sheet and nothing else. What it reads is what
- * ovenquill_sheet_write writes for that note and the numbers of those records, byte for byte. The time does not grow with
- * `length`.
+ * is where its first record begins, to `note_length`: the note is the first `note_length` bytes of `sheet`, with no zero byte at
+ * its end. The `length` bytes are the sheet and nothing else. What it reads is what ovenquill_sheet_write writes for that note and
+ * the numbers of those records, byte for byte. The time does not grow with `length`.
  *
  * Refusal, after which `note_length` is unchanged:
  *   OVENQUILL_MALFORMED_SHEET   length below OVENQUILL_SHEET_TRAILER_BYTES or above OVENQUILL_SHEET_MAX_BYTES, a trailer whose
@@ -626,7 +626,7 @@ int64_t ovenquill_sheet_read(const uint8_t *sheet, size_t length, int64_t *note_
 
 /*
  * The record of a sheet at a place. Writes its numbers to `record` and answers 0. They are handed over as they are: what they
- * claim is for ovenquill_sheet_check to judge.
+ * claim is for ovenquill_sheet_check to judge. Each call tests the sheet anew; the time does not grow with `length`.
  *
  * Refusal, after which `record` is unchanged:
  *   OVENQUILL_MALFORMED_SHEET   no sheet, as ovenquill_sheet_read refuses it, or place below 0 or not below the number of records
@@ -635,7 +635,8 @@ int64_t ovenquill_sheet_record(const uint8_t *sheet, size_t length, int64_t plac
 
 /*
  * The claim of a sheet's record at a place. Answers 0 where it is accepted; `least` is then unchanged. The verdict is
- * ovenquill_check_bound's own: what that call answers to the eight numbers of the record, and writes to `least`.
+ * ovenquill_check_bound's own: what that call answers to the eight numbers of the record, and writes to `least`. So is the time,
+ * but for the test of the sheet, which does not grow with `length`.
  *
  * Refusals:
  *   OVENQUILL_MALFORMED_SHEET             no such record, as ovenquill_sheet_record refuses it; `least` is unchanged

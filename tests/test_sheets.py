@@ -363,8 +363,8 @@ def writing_of(note, numbers, room):
 
 
 def writings_to_try(numbers):
-    """Notes, numbers and lengths of buffers: small ones, notes of every length up to some blocks, and those around the most bytes and
-    records."""
+    """Notes, numbers and lengths of buffers: small ones, notes of each length from 0 to 299 bytes, and those around the most bytes
+    and records."""
     pairs = [(numbers.randint(0, 60), numbers.randint(0, 40)) for _ in range(600)]
     pairs += [(numbers.randint(0, 60), 8 * numbers.randint(0, 40)) for _ in range(600)]
     pairs += [(note, count) for note in range(300) for count in (0, 8)]

@@ -86,7 +86,7 @@ pub fn read(sheet: &[u8]) -> ReadAnswer
 
 // Whether a trailer does not fit a file of some length, or has too many records.
 fn trailer_misfits(offset: usize, records: usize, whole: usize, length: usize) -> bool
-    requires { ⌜ (offset < 2 ^ 32) × (records < 2 ^ 32) ⌝ }
+    requires { ⌜ offset < 2 ^ 32 ⌝ }
     ensures { λ r. ⌜ r ≡ misfits offset records whole length ⌝ }
 {
     if records > RECORDS_MOST {

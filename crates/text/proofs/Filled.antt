@@ -8,7 +8,7 @@ use native.Mathlib.Omega.{arith}
 use borrow.Author.Tests.{not-true, not-false, leb-true, leb-false, le-leb, lt-leb}
 use lib.Dec.{leb}
 use lib.ListN.{length, set, take, drop, length-append}
-use lib.Seq.{set-set, set-comm, sets, length-sets, sets-eq, drop-drop, take-add, length-take-le, take-append-seam, drop-append-add}
+use lib.Seq.{set-set, set-comm, sets, length-sets, sets-eq, drop-drop, take-add, take-length, length-take-le, take-append-seam, drop-append-add}
 use Rattle.text.specs.Words.{partOf}
 use Rattle.text.specs.Filled.{filled, Stored, Begins, hasRoom, placeBehind, placed}
 use Rattle.text.proofs.Words.{part-length, part-two}
@@ -89,6 +89,15 @@ filled-front-part at text k from size before low high end within e f =
     ∙ filled-more at front more before place
     ∙ ap (λ l. filled at l before) (sym (take-add from size text) ∙ ap (λ n. take n text) end)
 
+-- the last part of a text over the end of what is before it
+pub filled-last-part :
+    (at : ℕ) (text : List ℕ) (k size : ℕ) (before : List ℕ) {between after : List ℕ} → size ≤ length text → length text - size ≤ k → k ≤ length text →
+    between ≡ filled at (take k text) before → after ≡ filled (at + (length text - size)) (partOf (length text - size) size text) between →
+    after ≡ filled at text before
+filled-last-part at text k size before most low high e f =
+    let s : length text - size + size ≡ length text = omega arith in
+    filled-front-part at text k (length text - size) size before low (omega arith) s (omega arith) e f ∙ ap (λ t. filled at t before) (take-length text)
+
 -- whether a piece has room, without a sum
 pub room-left : (length at count : ℕ) → at ≤ length → leb count (length - at) ≡ leb (at + count) length
 room-left length at count h = go (leb count (length - at)) refl
@@ -152,6 +161,7 @@ filled-front text buffer h =
     let l : 0 + length text ≤ length buffer = omega arith in
     sets-eq text buffer 0 l ∙ ap (λ k. text ++ drop k buffer) (zero-add (length text))
 
+-- what was stored at the front, read again
 pub filled-front-read : (text before : List ℕ) {n : ℕ} {after : List ℕ} → length text ≡ n → n ≤ length before → after ≡ filled 0 text before → take n after ≡ text
 filled-front-read text before e h f = ap₂ take (sym e) (f ∙ filled-front text before (omega arith)) ∙ take-append-seam text (drop (length text) before)
 

@@ -62,7 +62,7 @@ pub fn number_length(n: u64) -> usize
     count
 }
 
-// By blocks, so that none but the shortest pieces takes a step for each byte. The last block may go over bytes of the one before.
+// By blocks of some fixed sizes, which the compiler makes single steps of. The last block may go over bytes of the one before.
 fn store(out: &mut [u8], at: usize, piece: &[u8])
     requires { ⌜ at + length (now piece) ≤ length (now out) ⌝ }
     ensures { λ _. ⌜ now (out .exit) ≡ filled at (now (piece .entry)) (now (out .entry)) ⌝ }
@@ -81,7 +81,7 @@ fn store(out: &mut [u8], at: usize, piece: &[u8])
     }
 }
 
-// A piece of at least one block, by whole blocks.
+// A piece of at least one block, by whole blocks; the last may go over bytes of the one before.
 fn store_blocks(out: &mut [u8], at: usize, piece: &[u8])
     requires { ⌜ (32 ≤ length (now piece)) × (at + length (now piece) ≤ length (now out)) ⌝ }
     ensures { λ _. ⌜ now (out .exit) ≡ filled at (now (piece .entry)) (now (out .entry)) ⌝ }
@@ -95,7 +95,7 @@ fn store_blocks(out: &mut [u8], at: usize, piece: &[u8])
     store_block(out, at, piece, last, BLOCK);
 }
 
-// A piece that is as long as one block of some size, or two, or between: its first and its last block.
+// A piece of one to two blocks of some size: its first block and its last, which may overlap.
 fn store_ends(out: &mut [u8], at: usize, piece: &[u8], size: usize)
     requires { ⌜ ((size ≤ 32) × ((size ≤ length (now piece)) × (length (now piece) ≤ size + size))) × (at + length (now piece) ≤ length (now out)) ⌝ }
     ensures { λ _. ⌜ now (out .exit) ≡ filled at (now (piece .entry)) (now (out .entry)) ⌝ }
@@ -104,13 +104,13 @@ fn store_ends(out: &mut [u8], at: usize, piece: &[u8], size: usize)
     store_block(out, at, piece, piece.len() - size, size);
 }
 
-// The block of a piece from its byte `from` on, where it is to stand in a buffer that has the piece from byte `at` on. It is read before
-// it is stored, so that both take one step.
+// The block of a piece from its byte `from` on, in a buffer that is to have the piece from byte `at` on. It is read whole before it is
+// stored, so that the compiler can make one load and one store of it.
 fn store_block(out: &mut [u8], at: usize, piece: &[u8], from: usize, size: usize)
     requires { ⌜ ((size ≤ 32) × (from + size ≤ length (now piece))) × (at + from + size ≤ length (now out)) ⌝ }
     ensures { λ _. ⌜ now (out .exit) ≡ filled (at + from) (partOf from size (now (piece .entry))) (now (out .entry)) ⌝ }
 {
-    let mut block: [u8; 32] = [0; 32];
+    let mut block: [u8; BLOCK] = [0; BLOCK];
     store_part(&mut block, 0, piece, from, size);
     store_part(out, at + from, &block, 0, size);
 }

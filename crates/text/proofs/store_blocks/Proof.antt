@@ -2,9 +2,8 @@ use Prim.Native.Nat.{_+_, _-_, _≤_}
 use mathlib.Core.Path.{_≡_, refl, ap, _∙_}
 use native.Mathlib.Omega.{arith}
 use lib.ListN.{length, take}
-use lib.Seq.{take-length}
 use Rattle.text.specs.Filled.{filled}
-use Rattle.text.proofs.Filled.{filled-length, filled-nothing, filled-front-part}
+use Rattle.text.proofs.Filled.{filled-length, filled-nothing, filled-front-part, filled-last-part}
 use Rattle.text.proofs.store_blocks.Statement.{statement}
 use Rattle.text.proofs.store_blocks.Tie as tie
 
@@ -47,11 +46,7 @@ returns : tie.Need-returns Inv-loop μ-loop
 returns c =
     let a = c .before .before .before .before .before .before .before .before .args in
     let l = c .before .before .before .before .before .loop in
-    let piece = a .piece .now in
-    let n = length piece in
-    let s : n - 32 + 32 ≡ n = omega arith in
-    filled-front-part (a .at) piece (l .i) (n - 32) 32 (a .out .now) (omega arith) (omega arith) s (omega arith) (l .inv .1 .1) (c .before .before .store-block2 .ensures)
-    ∙ ap (λ t. filled (a .at) t (a .out .now)) (take-length piece)
+    filled-last-part (a .at) (a .piece .now) (l .i) 32 (a .out .now) (omega arith) (omega arith) (omega arith) (l .inv .1 .1) (c .before .before .store-block2 .ensures)
 
 pub store-blocks-spec : {M : Type 1} → statement M
 store-blocks-spec =

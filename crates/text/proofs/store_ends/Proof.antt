@@ -1,11 +1,10 @@
-use Prim.Native.Nat.{_+_, _-_}
+use Prim.Native.Nat.{_+_}
 use mathlib.Core.Path.{_≡_, ap, _∙_}
 use native.Mathlib.Omega.{arith}
 use borrow.Author.Needs.{needs}
-use lib.ListN.{length, take}
-use lib.Seq.{take-length}
+use lib.ListN.{take}
 use Rattle.text.specs.Filled.{filled}
-use Rattle.text.proofs.Filled.{filled-front-part}
+use Rattle.text.proofs.Filled.{filled-last-part}
 use Rattle.text.proofs.store_ends.Statement.{statement}
 use Rattle.text.proofs.store_ends.Tie as tie
 
@@ -25,13 +24,10 @@ returns : tie.Need-returns
 returns c =
     let a = c .before .before .before .before .before .before .before .before .before .before .args in
     let piece = a .piece .now in
-    let n = length piece in
-    let s : n - a .size + a .size ≡ n = omega arith in
     let z : a .at + 0 ≡ a .at = omega arith in
     let first = c .before .before .before .before .before .before .store-block .ensures
     ∙ ap (λ k. filled k (take (a .size) piece) (a .out .now)) z in
-    filled-front-part (a .at) piece (a .size) (n - a .size) (a .size) (a .out .now) (omega arith) (omega arith) s (omega arith) first (c .before .before .store-block2 .ensures)
-    ∙ ap (λ t. filled (a .at) t (a .out .now)) (take-length piece)
+    filled-last-part (a .at) piece (a .size) (a .size) (a .out .now) (omega arith) (omega arith) (omega arith) first (c .before .before .store-block2 .ensures)
 
 pub store-ends-spec : {M : Type 1} → statement M
 store-ends-spec =
