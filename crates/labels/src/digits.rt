@@ -119,10 +119,7 @@ pub fn four_bytes(text: &[u8], at: usize) -> u64
     requires { ⌜ at + 4 ≤ length (now text) ⌝ }
     ensures { λ r. ⌜ (r ≡ word (partOf at 4 (now (text .entry)))) × (r < 2 ^ 32) ⌝ }
 {
-    text[at] as u64
-        + text[at + 1] as u64 * 0x100
-        + text[at + 2] as u64 * 0x1_0000
-        + text[at + 3] as u64 * 0x100_0000
+    text::four_bytes(text[at], text[at + 1], text[at + 2], text[at + 3]) as u64
 }
 
 // A shape as one number.

@@ -15,10 +15,7 @@ pub fn number_at(sheet: &[u8], at: usize) -> u32
     requires { ⌜ at + 4 ≤ length (now sheet) ⌝ }
     ensures { λ r. ⌜ r ≡ numberAt (now (sheet .entry)) at ⌝ }
 {
-    sheet[at] as u32
-        + sheet[at + 1] as u32 * 0x100
-        + sheet[at + 2] as u32 * 0x1_0000
-        + sheet[at + 3] as u32 * 0x100_0000
+    text::four_bytes(sheet[at], sheet[at + 1], sheet[at + 2], sheet[at + 3])
 }
 
 // The eight numbers from byte `at` on.

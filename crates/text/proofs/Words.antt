@@ -121,8 +121,8 @@ part-four at text h = part-more at 3 text (omega arith) ∙ ap (λ l. l ++ getD 
 -- the numbers of four and of eight bytes
 pub four-word :
     (text : List ℕ) (at : ℕ) → at + 4 ≤ length text →
-    getD text at 0 + getD text (at + 1) 0 * 256 + getD text (at + 2) 0 * 65536 + getD text (at + 3) 0 * 16777216 ≡ word (partOf at 4 text)
-four-word text at h = sym (ap word (part-four at text h) ∙ omega arith)
+    word (getD text at 0 ∷ getD text (at + 1) 0 ∷ getD text (at + 2) 0 ∷ getD text (at + 3) 0 ∷ []) ≡ word (partOf at 4 text)
+four-word text at h = sym (ap word (part-four at text h))
 
 pub eight-word :
     (text : List ℕ) (at : ℕ) → at + 8 ≤ length text → {a b : ℕ} → a ≡ word (partOf at 4 text) → b ≡ word (partOf (at + 4) 4 text) →

@@ -1,15 +1,18 @@
 // Text put into a lent buffer piece by piece. What has no room is not put, and the place behind it is then where it was to begin.
+// Four bytes read as one number.
 //
 //     put(out, at, piece)         the piece from byte `at` on; the place behind it
 //     put_number(out, at, n)      a number in decimal, without leading zeros; the place behind it
 //     number_length(n)            how many digits that has
+//     four_bytes(a, b, c, d)      the number of four bytes, the lowest first
 
 ghost use mathlib.Core.Path.{_≡_};
 ghost use Prim.Native.Nat.{_+_, _≤_};
+ghost use mathlib.Core.List.{[], _∷_};
 ghost use lib.Dec.{leb};
 ghost use lib.ListN.{length};
 ghost use Rattle.text.specs.Decimal.{digits, decimal};
-ghost use Rattle.text.specs.Words.{partOf};
+ghost use Rattle.text.specs.Words.{word, partOf};
 ghost use Rattle.text.specs.Filled.{filled, placeBehind, placed};
 
 // Bytes of the longest block that is stored at once.
@@ -60,6 +63,13 @@ pub fn number_length(n: u64) -> usize
         power *= 10;
     }
     count
+}
+
+// The number of four bytes, the lowest first.
+pub fn four_bytes(a: u8, b: u8, c: u8, d: u8) -> u32
+    ensures { λ r. ⌜ r ≡ word (a ∷ b ∷ c ∷ d ∷ []) ⌝ }
+{
+    a as u32 + b as u32 * 0x100 + c as u32 * 0x1_0000 + d as u32 * 0x100_0000
 }
 
 // By blocks of some fixed sizes, which the compiler makes single steps of. The last block may go over bytes of the one before.
