@@ -31,7 +31,7 @@ $(CHECK_SHEET): $(RATTLE) | $(LIB)
 	rt check check_sheet
 	cp target/bin/check_sheet $@
 
-build/%: examples/%.c include/ovenquill.h $(LIB)
+build/%: examples/%.c examples/read_line.h include/ovenquill.h $(LIB)
 	$(CC) $(CFLAGS) -std=c99 -Iinclude $< $(LIB) -o $@
 
 demo: $(EXAMPLES) $(CHECK_SHEET)

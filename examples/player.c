@@ -16,8 +16,7 @@
 #include <string.h>
 
 #include "ovenquill.h"
-
-static const char blanks[] = " \t\r";
+#include "read_line.h"
 
 /* By the weekday's number; there is no weekday 0. */
 static const char *const weekday_names[] = {
@@ -79,29 +78,6 @@ static int show(const char *text, struct origin origin)
         return 1;
     }
     return 0;
-}
-
-/* A line without its newline: as many of its bytes as the buffer holds, and how many the stream had. */
-struct line {
-    char text[256];
-    size_t length;
-    int has_zero_byte;
-};
-
-/* Reads the next line; answers 0 where there is none. */
-static int read_line(FILE *in, struct line *line)
-{
-    int c;
-    line->length = 0;
-    line->has_zero_byte = 0;
-    while ((c = getc(in)) != EOF && c != '\n') {
-        if (line->length < sizeof line->text - 1)
-            line->text[line->length] = (char)c;
-        line->length++;
-        line->has_zero_byte |= c == '\0';
-    }
-    line->text[line->length < sizeof line->text ? line->length : sizeof line->text - 1] = '\0';
-    return c != EOF || line->length != 0;
 }
 
 /* Shows each line of a stream; a line with a zero byte or longer than the buffer is bad as a whole. */

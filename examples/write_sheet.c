@@ -13,34 +13,11 @@
 #include <string.h>
 
 #include "ovenquill.h"
+#include "read_line.h"
 
-static const char blanks[] = " \t\r";
 static const char digits[] = "0123456789";
 
 static const char *const names[OVENQUILL_SHEET_RECORD_NUMBERS] = {"a", "b", "d", "m", "c", "k", "t", "bound"};
-
-/* A line without its newline: as many of its bytes as the buffer holds, and how many the stream had. */
-struct line {
-    char text[256];
-    size_t length;
-    int has_zero_byte;
-};
-
-/* Reads the next line; answers 0 where there is none. */
-static int read_line(FILE *in, struct line *line)
-{
-    int c;
-    line->length = 0;
-    line->has_zero_byte = 0;
-    while ((c = getc(in)) != EOF && c != '\n') {
-        if (line->length < sizeof line->text - 1)
-            line->text[line->length] = (char)c;
-        line->length++;
-        line->has_zero_byte |= c == '\0';
-    }
-    line->text[line->length < sizeof line->text ? line->length : sizeof line->text - 1] = '\0';
-    return c != EOF || line->length != 0;
-}
 
 /* Begins a message about a line. */
 static void begin_message(long line_number)

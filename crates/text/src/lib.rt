@@ -72,7 +72,8 @@ pub fn four_bytes(a: u8, b: u8, c: u8, d: u8) -> u32
     a as u32 + b as u32 * 0x100 + c as u32 * 0x1_0000 + d as u32 * 0x100_0000
 }
 
-// By blocks of some fixed sizes, which the compiler makes single steps of. The last block may go over bytes of the one before.
+// Stores a piece from byte `at` on, by blocks of some fixed sizes, which the compiler makes single steps of. The last block may go over
+// bytes of the one before.
 fn store(out: &mut [u8], at: usize, piece: &[u8])
     requires { ⌜ at + length (now piece) ≤ length (now out) ⌝ }
     ensures { λ _. ⌜ now (out .exit) ≡ filled at (now (piece .entry)) (now (out .entry)) ⌝ }

@@ -9,24 +9,6 @@ use Rattle.text.proofs.Filled.{filled-front-read}
 use Rattle.text.proofs.store_block.Statement.{statement}
 use Rattle.text.proofs.store_block.Tie as tie
 
-slice-aggregate-store-part : tie.Need-slice-aggregate-store-part
-slice-aggregate-store-part c = search needs
-
-store-part-requires : tie.Need-store-part-requires
-store-part-requires c κs = search needs
-
-add-store-part : tie.Need-add-store-part
-add-store-part c = search needs
-
-slice-aggregate-store-part-2 : tie.Need-slice-aggregate-store-part-2
-slice-aggregate-store-part-2 c = search needs
-
-store-part-requires-2 : tie.Need-store-part-requires-2
-store-part-requires-2 c κs = search needs
-
-same-length : tie.Need-same-length
-same-length c = search needs
-
 returns : tie.Need-returns
 returns c =
     let a = c .before .before .before .before .before .before .before .before .before .before .args in
@@ -38,10 +20,10 @@ pub store-block-spec : {M : Type 1} → statement M
 store-block-spec =
     tie.close
     (tie.spec
-    slice-aggregate-store-part
-    store-part-requires
-    add-store-part
-    slice-aggregate-store-part-2
-    store-part-requires-2
-    same-length
+    (λ c. search needs)
+    (λ c κs. search needs)
+    (λ c. search needs)
+    (λ c. search needs)
+    (λ c κs. search needs)
+    (λ c. search needs)
     returns)

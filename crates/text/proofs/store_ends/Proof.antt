@@ -8,18 +8,6 @@ use Rattle.text.proofs.Filled.{filled-last-part}
 use Rattle.text.proofs.store_ends.Statement.{statement}
 use Rattle.text.proofs.store_ends.Tie as tie
 
-store-block-requires : tie.Need-store-block-requires
-store-block-requires c κs = search needs
-
-sub-store-block : tie.Need-sub-store-block
-sub-store-block c = search needs
-
-store-block-requires-2 : tie.Need-store-block-requires-2
-store-block-requires-2 c κs = search needs
-
-same-length : tie.Need-same-length
-same-length c = search needs
-
 returns : tie.Need-returns
 returns c =
     let a = c .before .before .before .before .before .before .before .before .before .before .args in
@@ -32,4 +20,4 @@ returns c =
 pub store-ends-spec : {M : Type 1} → statement M
 store-ends-spec =
     tie.close
-    (tie.spec store-block-requires sub-store-block store-block-requires-2 same-length returns)
+    (tie.spec (λ c κs. search needs) (λ c. search needs) (λ c κs. search needs) (λ c. search needs) returns)
