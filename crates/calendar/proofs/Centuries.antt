@@ -77,9 +77,19 @@ leaps-again k y = sum _ _ _ _ _ _ (omega arith) (omega arith) (omega arith) (ome
     sum A B C a b c p q r h = omega arith
 
 -- a date's number after k cycles is their days more
-number-again : (k y m d : ℕ) → dayNumber (k * cycleYears + y) m d ≡ k * cycle + dayNumber y m d
+pub number-again : (k y m d : ℕ) → dayNumber (k * cycleYears + y) m d ≡ k * cycle + dayNumber y m d
 unfolding dayNumber start
 number-again k y m d = rw (leap-again k y) (omega (arith, leaps-again k y))
+
+-- a date is a date again after k cycles
+pub valid-again : (k y m d : ℕ) → Valid y m d → Valid (k * cycleYears + y) m d
+valid-again k y m d v =
+    record {
+      month-low = v .month-low;
+      month-high = v .month-high;
+      day-low = v .day-low;
+      day-high = rw (leap-again k y) (v .day-high);
+    }
 
 -- the year 0, counted from baseYear in years and in cycles, and the count of its first day
 abbrev pub yearZero : ℕ
@@ -110,15 +120,8 @@ module _ (y m d : ℕ) (h : yearZero + y ≤ toYear) where
   -- its count is that of the first day of the year 0 and its number
   count-is : Valid y m d → countOfDate (dateOf (pos y) (pos m) (pos d)) ≡ countZero +ℤ pos (dayNumber y m d)
   count-is v =
-      let w : Valid (yearZero + y) m d =
-      record {
-        month-low = v .month-low;
-        month-high = v .month-high;
-        day-low = v .day-low;
-        day-high = rw (leap-again cyclesToZero y) (v .day-high);
-      } in
       ap (λ z. countOfDate (dateOf z (pos m) (pos d))) (sym year-is)
-      ∙ sym (count-base (yearZero + y) m d (record { is-valid = w; from = omega arith; to = h }))
+      ∙ sym (count-base (yearZero + y) m d (record { is-valid = valid-again cyclesToZero y m d v; from = omega arith; to = h }))
       ∙ ap (λ n. baseCount +ℤ pos n) (number-again cyclesToZero y m d)
       ∙ sym (+ℤ-assoc baseCount (pos (cyclesToZero * cycle)) (pos (dayNumber y m d)))
 

@@ -12,14 +12,16 @@ use mir.Val.{SFits, toZ, boolByte}
 use mir.Facts.{toZ-pos}
 use Rattle.numbers.proofs.Machine.{read, add-first, add-first-is}
 use Rattle.calendar.specs.Gregorian.{dateOf, dateAfter}
-use Rattle.calendar.specs.Closed.{cycle, fromYear, baseYear, lastDay, firstFromMarch, leapDay, leaps, start, before, Valid, InRange, dayNumber, public, newYear, fromMarch, beforeMarch}
+use Rattle.day_table.specs.Year.{newYear, monthOf, dayOf}
+use Rattle.day_table.proofs.Rule.{new-year}
+use Rattle.calendar.specs.Closed.{cycle, fromYear, baseYear, lastDay, firstFromMarch, leapDay, leaps, start, before, Valid, InRange, dayNumber, public, beforeMarch}
 use Rattle.calendar.proofs.Leap.{leaps-step, leaps-next, few}
 use Rattle.calendar.proofs.Months.{before-early, before-late}
 use Rattle.calendar.proofs.Steps.{number-in-range}
 use Rattle.calendar.proofs.March.{centuryOf, dayOfCentury, yearOfCentury, dayOfMarchYear, century-sum, algorithm-3}
 
 -- a date of natural numbers as the machine makes it
-made : (y m d : ℕ) → y < 2 ^ 32 → m < 2 ^ 32 → d < 2 ^ 32 → dateOf (read (toZ w64 y +ℤ baseYear)) (toZ w64 m) (toZ w64 d) ≡ public y m d
+pub made : (y m d : ℕ) → y < 2 ^ 32 → m < 2 ^ 32 → d < 2 ^ 32 → dateOf (read (toZ w64 y +ℤ baseYear)) (toZ w64 m) (toZ w64 d) ≡ public y m d
 made y m d hy hm hd =
     let p = add-first-is baseYear y (omega arith) ∙ +ℤ-comm (pos y) baseYear in
     let q = toZ-pos w64 {n = m} (omega arith) in
@@ -54,10 +56,6 @@ same-year n = year-of (regular n) (centuryOf n) (dayOfCentury n) (regular-is n)
 pub same-day : (n : ℕ) → marchDay n ≡ dayOfMarchYear n
 same-day n = day-of (regular n) ∙ ap (λ r. r / 4) (rest-of (regular n) (centuryOf n) (dayOfCentury n) (regular-is n))
 
--- the day of the month, counted from 1
-day-from-one : (k : ℕ) → k + 1 - fromMarch ((5 * k + 461) / 153) ≡ (5 * k + 461) % 153 / 5 + 1
-day-from-one k = omega arith
-
 -- a test as a number
 flag-le : (t : Bool) → boolByte t ≤ 1
 flag-le true = omega arith
@@ -66,33 +64,26 @@ flag-le false = omega arith
 -- what the code's steps ask of the numbers, and what they come to
 module _ (n : ℕ) (h : n ≤ lastDay) where
   pub new-year-le : newYear (marchDay n) ≤ 1
-  new-year-le = flag-le (leb 306 (marchDay n))
+  new-year-le = new-year (marchDay n) .0
 
-  day-small : marchDay n ≤ 365
+  pub day-small : marchDay n ≤ 365
   day-small = omega (arith, same-day n)
 
   pub year-fits : marchYear n + newYear (marchDay n) < 2 ^ 32
   year-fits = omega (arith, new-year-le)
 
-  pub year-adds : SFits w64 (toZ w64 (marchYear n + newYear (marchDay n)) +ℤ baseYear)
-  year-adds = let l = year-fits in add-first baseYear (marchYear n + newYear (marchDay n)) (omega arith)
-
-  pub month-subtracts : 12 * newYear (marchDay n) ≤ (5 * marchDay n + 461) / 153
-  month-subtracts = go (leb 306 (marchDay n)) refl
-    where
-      go : (t : Bool) → leb 306 (marchDay n) ≡ t → 12 * boolByte t ≤ (5 * marchDay n + 461) / 153
-      go true e = let l = leb-true 306 (marchDay n) e in omega arith
-      go false e = omega arith
+  pub year-adds : {y : ℕ} → y ≡ marchYear n + newYear (marchDay n) → SFits w64 (toZ w64 y +ℤ baseYear)
+  year-adds {y} e = let l = year-fits in add-first baseYear y (omega arith)
 
   pub date-made :
-      dateOf (read (toZ w64 (marchYear n + newYear (marchDay n)) +ℤ baseYear)) (toZ w64 ((5 * marchDay n + 461) / 153 - 12 * newYear (marchDay n)))
-      (toZ w64 (marchDay n + 1 - fromMarch ((5 * marchDay n + 461) / 153))) ≡ dateAfter n
-  date-made =
-      let k = marchDay n in
+      {y m d : ℕ} → y ≡ marchYear n + newYear (marchDay n) → m ≡ monthOf (marchDay n) → d ≡ dayOf (marchDay n) →
+      dateOf (read (toZ w64 y +ℤ baseYear)) (toZ w64 m) (toZ w64 d) ≡ dateAfter n
+  date-made {y} {m} {d} p q r =
       let l = day-small in
-      made (marchYear n + newYear k) ((5 * k + 461) / 153 - 12 * newYear k) (k + 1 - fromMarch ((5 * k + 461) / 153)) year-fits (omega arith)
-      (omega arith)
-      ∙ (λ i. public (same-year n i + newYear (same-day n i)) ((5 * same-day n i + 461) / 153 - 12 * newYear (same-day n i)) (day-from-one (same-day n i) i))
+      let f = year-fits in
+      made y m d (omega arith) (omega arith) (omega arith)
+      ∙ (λ i. public (p i) (q i) (r i))
+      ∙ (λ i. public (same-year n i + newYear (same-day n i)) (monthOf (same-day n i)) (dayOf (same-day n i)))
       ∙ sym (algorithm-3 n)
 
 pub before-march-le : (m : ℕ) → beforeMarch m ≤ 1

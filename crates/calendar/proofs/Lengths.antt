@@ -7,7 +7,7 @@ use lib.Bits.{bitOr, bitXor}
 use lib.Dec.{T, eqb}
 use lib.IntN.{ℤ, pos, natAbs, _+ℤ_}
 use lib.Signed.{nonNeg}
-use mir.Syntax.{w32, w64}
+use mir.Syntax.{w64}
 use mir.Val.{SFits, Fits, toZ, ofZ, boolByte}
 use mir.Facts.{toZ-ofZ, toZ-pos}
 use Rattle.refusal.specs.Outcome.{value, refused}
@@ -48,8 +48,8 @@ bits-days l = each-month (λ m. daysByBits l m ≡ monthDays l m) (omega arith)
 
 -- an accepted month as an unsigned number, and its length
 module _ {month : ℤ} (f : SFits w64 month) (h : outside (pos 1) (pos 12) month ≡ false) where
-  pub month-cast : T (nonNeg (read month)) × Fits w32 (natAbs (read month))
-  month-cast = let n = natural-within 1 (pos 12) month h in cast-pos w32 (natAbs month) (omega (arith, n .high)) (toZ-ofZ f ∙ n .is)
+  pub month-cast : T (nonNeg (read month)) × Fits w64 (natAbs (read month))
+  month-cast = let n = natural-within 1 (pos 12) month h in cast-pos w64 (natAbs month) (omega (arith, n .high)) (toZ-ofZ f ∙ n .is)
 
   pub month-within : (1 ≤ natAbs (read month)) × (natAbs (read month) ≤ 12)
   month-within =

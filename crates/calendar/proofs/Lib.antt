@@ -1,7 +1,10 @@
+pub mod Records
+pub mod Quotients
 pub mod Leap
 pub mod Months
 pub mod Order
 pub mod Steps
+pub mod Counts
 pub mod Weekdays
 pub mod Lengths
 pub mod Tests
@@ -10,6 +13,8 @@ pub mod Centuries
 pub mod Shift
 pub mod March
 pub mod Conversion
+pub mod YearTable
+pub mod DateByProducts
 pub mod Laws
 pub mod Epoch
 pub mod WeekdayLaws

@@ -10,7 +10,8 @@ use lib.Dec.{leb}
 use borrow.Author.Tests.{leb-true, leb-false}
 use mir.Val.{boolByte}
 use Rattle.calendar.specs.Gregorian.{dateAfter}
-use Rattle.calendar.specs.Closed.{cycle, firstFromMarch, leapDay, leaps, start, monthDays, before, Valid, dayNumber, public, newYear}
+use Rattle.day_table.specs.Year.{newYear}
+use Rattle.calendar.specs.Closed.{cycle, firstFromMarch, leapDay, leaps, start, monthDays, before, Valid, dayNumber, public}
 use Rattle.calendar.proofs.Leap.{leap-le, leap-is-one, leaps-next}
 use Rattle.calendar.proofs.Months.{UpTo, up-to}
 use Rattle.calendar.proofs.Order.{start-step}
@@ -132,7 +133,7 @@ start-sum : (n C Z k : ℕ) → AfterMarch n C Z k → n + 306 ≡ start (100 * 
 unfolding start
 start-sum n C Z k w = omega (arith, w .sum)
 
-valid-date : (y m D : ℕ) → 1 ≤ m → m ≤ 12 → D + 1 ≤ monthDays (leapDay y) m → Valid y m (D + 1)
+pub valid-date : (y m D : ℕ) → 1 ≤ m → m ≤ 12 → D + 1 ≤ monthDays (leapDay y) m → Valid y m (D + 1)
 valid-date y m D lo hi h = record { month-low = lo; month-high = hi; day-low = omega arith; day-high = h }
 
 module _ (n C Z k : ℕ) (w : AfterMarch (cycle + n) C Z k) where

@@ -191,7 +191,7 @@ unfolding countOfDate
 count-after n h = ap (λ k. firstCount +ℤ pos k) (from-first lastDay n ∙ until lastDay 0 n h)
 
 -- the years of the range, counted from baseYear, and their days
-start-first : start fromYear ≡ cycle
+pub start-first : start fromYear ≡ cycle
 unfolding start leaps
 start-first = refl
 

@@ -88,10 +88,6 @@ dayNumber y m d = start y + before (leapDay y) m + (d - 1)
 abbrev pub public : (y m d : ℕ) → Date
 public y m d = dateOf (baseYear +ℤ pos y) (pos m) (pos d)
 
--- 1 for the days of January and February, the last of a year that begins on 1 March: Remark 1 of source document 000
-abbrev pub newYear : ℕ → ℕ
-newYear k = boolByte (leb 306 k)
-
 -- the days from 1 March to the first of month m, where 13 and 14 are January and February: equation (10) of source document 000
 abbrev pub fromMarch : ℕ → ℕ
 fromMarch m = (153 * m - 457) / 5
@@ -99,3 +95,12 @@ fromMarch m = (153 * m - 457) / 5
 -- 1 in January and February, else 0
 abbrev pub beforeMarch : ℕ → ℕ
 beforeMarch m = boolByte (leb m 2)
+
+-- day n in the calendar in which every fourth year is leap, where both count from the first day of a year after a multiple of 400, or
+-- from 1 March of such a multiple: the days that three in four centuries lack are put in
+abbrev pub regularDay : ℕ → ℕ
+regularDay n = n + (4 * n + 3) / cycle - (4 * n + 3) / cycle / 4
+
+-- the end of the days for which code has products in place of divisions
+abbrev pub daysEnd : ℕ
+daysEnd = 24000000

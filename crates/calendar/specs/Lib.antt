@@ -6,3 +6,4 @@ pub mod Answers
 -- What only proofs and private contracts need.
 pub mod Closed
 pub mod Checked
+pub mod YearStarts

@@ -5,9 +5,9 @@ use super::range::FIRST_COUNT;
 use super::range::FIRST_YEAR;
 
 // The years after which the calendar repeats itself, and their days.
-const CYCLE_YEARS: i64 = 400;
+pub const CYCLE_YEARS: i64 = 400;
 
-pub const CYCLE: u32 = 146097;
+pub const CYCLE: u64 = 146097;
 
 pub const BASE_YEAR: i64 = FIRST_YEAR - CYCLE_YEARS;
 
@@ -15,4 +15,4 @@ pub const BASE_YEAR: i64 = FIRST_YEAR - CYCLE_YEARS;
 pub const BASE_COUNT: i64 = FIRST_COUNT - CYCLE as i64;
 
 // So many days, 0 to 6, the first day of the range comes after a Monday: day 0 is a Thursday, three days after one.
-pub const FIRST_AFTER_MONDAY: u32 = ((FIRST_COUNT % 7 + 7 + 3) % 7) as u32;
+pub const FIRST_AFTER_MONDAY: u64 = ((FIRST_COUNT % 7 + 7 + 3) % 7) as u64;

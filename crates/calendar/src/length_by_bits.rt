@@ -10,17 +10,17 @@ ghost use Rattle.calendar.specs.Closed.{leapDay, monthDays};
 ghost use Rattle.calendar.specs.Checked.{lengthAnswer};
 
 // The length of a month of the year y, which is counted from BASE_YEAR.
-pub fn month_length(y: u32, month: i64) -> NumberAnswer
+pub fn month_length(y: u64, month: i64) -> NumberAnswer
     ensures { λ r. ⌜ numberOutcome r ≡ lengthAnswer (leapDay y) month ⌝ }
 {
     if numbers::outside(1, 12, month) {
         return NumberAnswer::Refused(Refusal::MonthOutOfRange);
     }
-    NumberAnswer::Value(days_of(year::leap_day(y), month as u32) as i64)
+    NumberAnswer::Value(days_of(year::leap_day(y), month as u64) as i64)
 }
 
 // The days of month m of a year that has `leap` leap days.
-fn days_of(leap: u32, m: u32) -> u32
+fn days_of(leap: u64, m: u64) -> u64
     requires { ⌜ (leap ≤ 1) × ((1 ≤ m) × (m ≤ 12)) ⌝ }
     ensures { λ r. ⌜ (r ≡ monthDays leap m) × (r ≤ 31) ⌝ }
 {

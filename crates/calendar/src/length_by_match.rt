@@ -9,13 +9,13 @@ ghost use Rattle.calendar.specs.Closed.{leapDay};
 ghost use Rattle.calendar.specs.Checked.{lengthAnswer};
 
 // The length of a month of the year y, which is counted from BASE_YEAR.
-pub fn month_length(y: u32, month: i64) -> NumberAnswer
+pub fn month_length(y: u64, month: i64) -> NumberAnswer
     ensures { λ r. ⌜ numberOutcome r ≡ lengthAnswer (leapDay y) month ⌝ }
 {
     match common_length(month) {
         NumberAnswer::Value(length) => {
             let leap = year::leap_day(y);
-            NumberAnswer::Value(length + ((month == 2) as u32 * leap) as i64)
+            NumberAnswer::Value(length + ((month == 2) as u64 * leap) as i64)
         }
         NumberAnswer::Refused(r) => NumberAnswer::Refused(r),
     }

@@ -21,10 +21,14 @@ use range::LAST_YEAR;
 use refusal::NumberAnswer;
 use refusal::Refusal;
 
+pub mod audit;
 pub mod base;
 mod convert;
+mod fast;
 mod length_by_bits;
 mod length_by_match;
+pub mod plain;
+pub mod products;
 pub mod range;
 mod weekday;
 mod year;
@@ -138,7 +142,7 @@ pub fn add_days(year: i64, month: i64, day: i64, days: i64) -> DateAnswer
 
 // A tested date, its year counted from BASE_YEAR.
 enum Checked {
-    Accepted(u32, u32, u32),
+    Accepted(u64, u64, u64),
     Refused(Refusal),
 }
 
@@ -151,7 +155,7 @@ fn check_date(year: i64, month: i64, day: i64) -> Checked
             if numbers::outside(1, length, day) {
                 return Checked::Refused(Refusal::DayOutOfRange);
             }
-            Checked::Accepted(years_from_base(year), month as u32, day as u32)
+            Checked::Accepted(years_from_base(year), month as u64, day as u64)
         }
         NumberAnswer::Refused(r) => Checked::Refused(r),
     }
@@ -162,21 +166,21 @@ fn date_of_count(days: i64) -> Date
     requires { ⌜ outside firstCount lastCount days ≡ false ⌝ }
     ensures { λ r. ⌜ r ≡ dateOfCount days ⌝ }
 {
-    convert::date_after(days_from_first(days))
+    fast::date_after(days_from_first(days))
 }
 
 // A count in the range, from the first one on.
-fn days_from_first(days: i64) -> u32
+fn days_from_first(days: i64) -> u64
     requires { ⌜ outside firstCount lastCount days ≡ false ⌝ }
     ensures { λ r. ⌜ (r ≡ since firstCount days) × (r ≤ lastDay) ⌝ }
 {
-    (days - FIRST_COUNT) as u32
+    (days - FIRST_COUNT) as u64
 }
 
 // A year in the range, from BASE_YEAR on.
-fn years_from_base(year: i64) -> u32
+fn years_from_base(year: i64) -> u64
     requires { ⌜ outside firstYear lastYear year ≡ false ⌝ }
     ensures { λ r. ⌜ (baseYear +ℤ pos r ≡ year) × ((fromYear ≤ r) × (r ≤ toYear)) ⌝ }
 {
-    (year - BASE_YEAR) as u32
+    (year - BASE_YEAR) as u64
 }

@@ -9,3 +9,4 @@ pub mod Signed
 pub mod Least
 pub mod Answers
 pub mod Laws
+pub mod Trials

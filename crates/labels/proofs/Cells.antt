@@ -8,6 +8,7 @@ use lib.Bits.{bitAnd, and-block, and-mask, and-zero-r}
 use lib.Dec.{lit<}
 use Rattle.text.specs.Decimal.{digits}
 use Rattle.text.specs.Words.{word}
+use Rattle.labels.proofs.Records as records
 
 pub data Cell : Type 0 where
   pair : ℕ → Cell
@@ -53,7 +54,8 @@ tens-are (pair n ∷ cs) p =
     let h = p .0 in
     let x = placed cs * 103 in
     let low = x % 1024 * 64 + n / 10 in
-    let e : (placed cs * 65536 + n) * 103 / 1024 ≡ x / 1024 * 65536 + low = omega arith in
+    let t : n * 103 / 1024 ≡ n / 10 = records.tens-are n (omega arith) in
+    let e : (placed cs * 65536 + n) * 103 / 1024 ≡ x / 1024 * 65536 + low = omega (arith, t) in
     let l : low < 65536 = omega arith in
     let m : low % 16 ≡ n / 10 = omega arith in
     ap (λ y. bitAnd y (lanes cs * 65536 + 15)) e

@@ -18,8 +18,8 @@ pub const COLON: u8 = b':';
 
 pub const POINT: u8 = b'.';
 
-// A hundredth of 2^19, rounded up: such products are divided by a shift.
-const HUNDREDTH: u32 = (1 << 19) / 100 + 1;
+// The hundreds of a number, with a shift by 19: place 6 of the sheet of constants.
+const HUNDREDTH: u32 = 5243;
 
 // The hundreds of a number of four digits. Of a quotient by 100 the compiler, which knows that much, makes a longer form of 16 bits.
 fn hundreds(n: u32) -> u32
@@ -29,8 +29,8 @@ fn hundreds(n: u32) -> u32
     (n * HUNDREDTH) >> 19
 }
 
-// Four digits of a number. Of numbers below 100 that stand apart in one number, 103 / 1024 are the tens of each, and 256 times the
-// numbers less 2559 times the tens put each tens digit into the byte below its ones.
+// Four digits of a number. Of numbers below 100 that stand apart in one number, 103 / 1024 are the tens of each (place 7 of the
+// sheet of constants), and 256 times the numbers less 2559 times the tens put each tens digit into the byte below its ones.
 pub fn four(n: u32) -> u64
     requires { ⌜ n < 10000 ⌝ }
     ensures { λ r. ⌜ r ≡ word (digits n 4) ⌝ }

@@ -4,6 +4,8 @@
 //
 //     ovenquill_days_from_civil(year, month, day, days)                       0, and the day count
 //     ovenquill_civil_from_days(days, date)                                   0, and year, month, day
+//     ovenquill_civil_from_days_plain(days, date)                             the same, by divisions
+//     ovenquill_civil_from_days_audit(days, date)                             the same, by a table of years
 //     ovenquill_weekday(days)                                                 1 Monday to 7 Sunday
 //     ovenquill_is_leap(year)                                                 1 leap, 0 not
 //     ovenquill_last_day_of_month(year, month)                                the month's length
@@ -68,6 +70,22 @@ pub extern "C" fn ovenquill_civil_from_days(days: i64, date: &mut [i64; 3]) -> i
     ensures date { λ r. ⌜ now (date .exit) ≡ afterCall (civilAnswer days) dateNumbers (now (date .entry)) ⌝ }
 {
     give::date(calendar::civil_from_days(days), date)
+}
+
+#[no_mangle]
+pub extern "C" fn ovenquill_civil_from_days_plain(days: i64, date: &mut [i64; 3]) -> i64
+    ensures answer { λ r. ⌜ r ≡ returnedDone (civilAnswer days) ⌝ }
+    ensures date { λ r. ⌜ now (date .exit) ≡ afterCall (civilAnswer days) dateNumbers (now (date .entry)) ⌝ }
+{
+    give::date(calendar::plain::civil_from_days(days), date)
+}
+
+#[no_mangle]
+pub extern "C" fn ovenquill_civil_from_days_audit(days: i64, date: &mut [i64; 3]) -> i64
+    ensures answer { λ r. ⌜ r ≡ returnedDone (civilAnswer days) ⌝ }
+    ensures date { λ r. ⌜ now (date .exit) ≡ afterCall (civilAnswer days) dateNumbers (now (date .entry)) ⌝ }
+{
+    give::date(calendar::audit::civil_from_days(days), date)
 }
 
 #[no_mangle]

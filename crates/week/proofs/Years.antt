@@ -3,7 +3,6 @@ use Prim.Native.Nat.{ℕ, _+_, _-_, _*_, _/_, _%_, _^_, _≤_, _<_}
 use mathlib.Core.Path.{_≡_, refl, ap}
 use mathlib.Core.Bool.{Bool, true, false, cond}
 use native.Mathlib.Decide.{decLt}
-use native.Mathlib.Nat.{div-eq-of-lt-le}
 use native.Mathlib.Omega.{arith, by-contra}
 use lib.Dec.{ltb}
 use borrow.Author.Tests.{ltb-true, ltb-false}
@@ -32,13 +31,6 @@ start-sum y L A C D e h = omega arith
 
 quarter : (y : ℕ) → 1461 * y / 4 ≡ 365 * y + y / 4
 quarter y = omega arith
-
--- quotients by products
-pub century-product : (y : ℕ) → y < 190000 → y * 167773 / 2 ^ 24 ≡ y / 100
-century-product y h = div-eq-of-lt-le (2 ^ 24) (omega arith) (omega arith)
-
-pub week-product : (n : ℕ) → n < 2 ^ 27 → n * 613566757 / 2 ^ 32 ≡ n / 7
-week-product n h = div-eq-of-lt-le (2 ^ 32) (omega arith) (omega arith)
 
 -- the code's form
 pub first-day-is : (y : ℕ) → 1461 * y / 4 - y / 100 + y / 100 / 4 ≡ firstDay y

@@ -1,6 +1,8 @@
 // The year of a day, and which seven days of the year it is one of, from products: source document 000, section 7, for years that begin
 // in January. Days and years are counted from the base.
 
+use calendar::products::CENTURY;
+use calendar::products::YEAR;
 ghost use mathlib.Core.Path.{_≡_};
 ghost use Prim.Native.Nat.{_+_, _-_, _/_, _≤_};
 ghost use Rattle.week.specs.Closed.{toDay, firstDay, InYear};
@@ -16,9 +18,9 @@ pub fn of_day(n: u64) -> YearWeek
     ensures { λ r. ⌜ InYear n (r .year) × (r .week ≡ (n - firstDay (r .year)) / 7 + 1) ⌝ }
 {
     let d = n + 1; // [1, toDay + 4]
-    let c = (d * 120414423) >> 42; // (4 * d - 1) / 146097, the century
-    let regular = d - c / 4 + c; // as if every fourth year were leap
-    let p = regular * 23517959; // 2^33 / 365.25 for each day
+    let c = (d * CENTURY) >> 42;
+    let regular = d - c / 4 + c; // the day as if every fourth year were leap
+    let p = regular * YEAR; // its year, with 33 bits behind the point
     YearWeek {
         year: p >> 33,
         week: ((p % (1 << 33) * 13357) >> 41) + 1,

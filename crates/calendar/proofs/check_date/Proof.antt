@@ -9,7 +9,7 @@ use Rattle.refusal.specs.Numbers.{refusalNumber}
 use Rattle.refusal.specs.Outcome.{numberOutcome, value}
 use mir.Facts.{toZ-ofZ}
 use mir.Val.{SFits}
-use mir.Syntax.{w32, w64}
+use mir.Syntax.{w64}
 use lib.IntN.{ℤ}
 use native.Mathlib.Omega.{arith}
 use mathlib.Core.Path.{_≡_, sym, ap, _∙_}
@@ -61,11 +61,11 @@ years-from-base-requires : tie.Need-years-from-base-requires
 years-from-base-requires c κs = valid c .year-inside
 
 cast-t11 : tie.Need-cast-t11
-cast-t11 c = let n = natural _ (valid (c .before)) in cast-pos w32 (n .m) (omega (arith, n .is-valid .month-high)) (ap (λ (d : Date). d .month) (n .is))
+cast-t11 c = let n = natural _ (valid (c .before)) in cast-pos w64 (n .m) (omega (arith, n .is-valid .month-high)) (ap (λ (d : Date). d .month) (n .is))
 
 cast-t12 : tie.Need-cast-t12
 cast-t12 c = let n = natural _ (valid (c .before)) in
-    cast-pos w32 (n .d) (omega (arith, day-small (n .y) (n .m) (n .d) (n .is-valid))) (ap (λ (d : Date). d .day) (n .is))
+    cast-pos w64 (n .d) (omega (arith, day-small (n .y) (n .m) (n .d) (n .is-valid))) (ap (λ (d : Date). d .day) (n .is))
 
 enum-known-r : tie.Need-enum-known-r
 enum-known-r c = search needs

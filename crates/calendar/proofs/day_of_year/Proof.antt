@@ -6,6 +6,7 @@ use borrow.Author.Needs.{needs}
 use mir.Syntax.{w64}
 use mir.Facts.{toZ-pos}
 use Rattle.refusal.specs.Outcome.{value}
+use Rattle.numbers.proofs.Machine.{pos-fits}
 use Rattle.calendar.specs.Count.{dayOfYear}
 use Rattle.calendar.specs.Answers.{dayOfYearAnswer}
 use Rattle.calendar.specs.Checked.{CheckedInRange}
@@ -22,6 +23,9 @@ days-before-month-requires c κs = let v = in-range c .is-valid in (v .month-low
 
 add-t11 : tie.Need-add-t11
 add-t11 c = record { fits = omega (arith, c .days-before-month .ensures .1, day-small _ _ _ (in-range (c .before) .is-valid)) }
+
+cast-t12 : tie.Need-cast-t12
+cast-t12 c = let l = day-small _ _ _ (in-range (c .before) .is-valid) in pos-fits (omega (arith, c .days-before-month .ensures .1))
 
 returns : tie.Need-returns
 unfolding dayOfYearAnswer
@@ -50,7 +54,7 @@ day-of-year-spec =
     (λ c. search needs)
     days-before-month-requires
     add-t11
-    (λ c. search needs)
+    cast-t12
     (λ c. search needs)
     returns
     returns-2)

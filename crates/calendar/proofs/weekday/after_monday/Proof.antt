@@ -13,11 +13,8 @@ add-result c = record { fits = omega (arith, c .pre) }
 rem-result : tie.Need-rem-result
 rem-result c = search needs
 
-cast-result : tie.Need-cast-result
-cast-result c = search needs
-
 returns : tie.Need-returns
-returns c = by-sevenths (c .args .n) _ _ (c .pre) (omega arith) (omega arith) (omega arith)
+returns c = by-sevenths (c .args .n) (c .pre)
 
 pub after-monday-spec : {M : Type 1} → statement M
-after-monday-spec = tie.close (tie.spec mul-result add-result rem-result cast-result returns)
+after-monday-spec = tie.close (tie.spec mul-result add-result rem-result returns)

@@ -8,7 +8,7 @@ returns : tie.Need-returns
 unfolding dayOf
 returns c =
     let h = c .before .pre in
-    let w = c .first-week .ensures in
+    let w = c .first-monday .ensures in
     (omega (arith, h, w .0), omega (arith, h, w .1))
 
 pub day-spec : {M : Type 1} → statement M

@@ -27,7 +27,7 @@ last-week y =
 returns : tie.Need-returns
 returns c =
     let s = c .before .before .before in
-    ap₂ (λ w d. ltb (7 * w + 367) d) (c .before .first-week .ensures .0) (c .first-day .ensures .0) ∙ last-week (s .args .year)
+    ap₂ (λ m d. ltb (m + 367) d) (c .before .first-monday .ensures .0) (c .first-day .ensures .0) ∙ last-week (s .args .year)
     ∙ ap (λ (w : ℤ). not (outside (pos 1) (pos (weeks (s .args .year))) w)) (sym (key-is (s .fits .week) 53 (lit< tt) (c .before .before .if1 .taken)))
 
 -- beside 53 there is no number between
@@ -57,7 +57,6 @@ has-week-spec =
     tie.close
     (tie.spec
     (λ c κs. search needs)
-    (λ c. search needs)
     (λ c. search needs)
     (λ c. search needs)
     (λ c κs. search needs)

@@ -1,8 +1,8 @@
 use Rattle.calendar.proofs.Months.{march-rule, days-from-march}
 use native.Mathlib.Omega.{arith}
 use borrow.Author.Needs.{needs}
-use Rattle.calendar.proofs.year.days_from_march.Statement.{statement}
-use Rattle.calendar.proofs.year.days_from_march.Tie as tie
+use Rattle.calendar.proofs.plain.days_from_march.Statement.{statement}
+use Rattle.calendar.proofs.plain.days_from_march.Tie as tie
 
 sub-at : tie.Need-sub-at
 sub-at c = search needs

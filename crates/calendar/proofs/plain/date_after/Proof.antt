@@ -1,16 +1,13 @@
-use Rattle.calendar.proofs.Conversion.{marchYear, marchDay, new-year-le, year-fits, year-adds, month-subtracts, date-made}
-use Rattle.calendar.specs.Closed.{baseYear, newYear}
-use Rattle.calendar.specs.Gregorian.{dateOf}
-use Rattle.numbers.proofs.Machine.{read, pos-fits}
-use lib.IntN.{_+ℤ_}
-use Prim.Native.Nat.{_+_, _-_, _*_, _/_}
-use mir.Val.{toZ}
+use Prim.Native.Nat.{ℕ, _+_, _-_, _*_, _/_, _%_}
+use mathlib.Core.Path.{_≡_, refl, ap, _∙_}
 use native.Mathlib.Omega.{arith}
-use mir.Syntax.{w64}
-use mathlib.Core.Path.{ap, _∙_}
+use Rattle.numbers.proofs.Machine.{pos-fits}
+use Rattle.day_table.proofs.Rule.{new-year}
+use Rattle.calendar.specs.Closed.{fromMarch}
+use Rattle.calendar.proofs.Conversion.{marchDay, new-year-le, year-fits, year-adds, date-made}
 use borrow.Author.Needs.{needs}
-use Rattle.calendar.proofs.convert.date_after.Statement.{statement}
-use Rattle.calendar.proofs.convert.date_after.Tie as tie
+use Rattle.calendar.proofs.plain.date_after.Statement.{statement}
+use Rattle.calendar.proofs.plain.date_after.Tie as tie
 
 add-n-0 : tie.Need-add-n-0
 add-n-0 c = search needs
@@ -55,13 +52,13 @@ cast-t12 : tie.Need-cast-t12
 cast-t12 c = let l = year-fits (c .args .n) (c .pre) in pos-fits (omega arith)
 
 add-t13 : tie.Need-add-t13
-add-t13 c = year-adds (c .args .n) (c .pre)
+add-t13 c = year-adds (c .args .n) (c .pre) refl
 
 mul-t10 : tie.Need-mul-t10
 mul-t10 c = record { fits = omega (arith, new-year-le (c .args .n) (c .pre)) }
 
 sub-t14 : tie.Need-sub-t14
-sub-t14 c = month-subtracts (c .args .n) (c .pre)
+sub-t14 c = new-year (marchDay (c .args .n)) .1
 
 cast-t15 : tie.Need-cast-t15
 cast-t15 c = search needs
@@ -78,13 +75,15 @@ sub-t18 c = search needs
 cast-t19 : tie.Need-cast-t19
 cast-t19 c = search needs
 
+-- the day of the month, counted from 1
+day-from-one : (k : ℕ) → k + 1 - fromMarch ((5 * k + 461) / 153) ≡ (5 * k + 461) % 153 / 5 + 1
+day-from-one k = omega arith
+
 returns : tie.Need-returns
 returns c =
     let n = c .before .args .n in
     let k = marchDay n in
-    ap (λ s. dateOf (read (toZ w64 (marchYear n + newYear k) +ℤ baseYear)) (toZ w64 ((5 * k + 461) / 153 - 12 * newYear k)) (toZ w64 (k + 1 - s)))
-    (c .days-from-march .ensures)
-    ∙ date-made n (c .before .pre)
+    date-made n (c .before .pre) refl refl (ap (λ s. k + 1 - s) (c .days-from-march .ensures) ∙ day-from-one k)
 
 pub date-after-spec : {M : Type 1} → statement M
 date-after-spec =

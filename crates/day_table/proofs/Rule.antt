@@ -1,0 +1,90 @@
+-- The rule of the table, by one test of each entry that is computed, and what the product computes.
+use Prim.Native.Nat.{ℕ, zero, suc, _+_, _-_, _*_, _/_, _%_, _^_, _≤_, _<_}
+use mathlib.Core.Path.{_≡_, refl, sym, ap, ap₂, _∙_, subst}
+use mathlib.Core.Bool.{Bool, true, false, cond, _&&_}
+use mathlib.Core.List.{List, [], _∷_}
+use native.Mathlib.Decide.{decLt}
+use native.Mathlib.Nat.{add-zero, zero-add, add-suc, suc-add, le-of-suc-le-suc, not-suc-le-zero}
+use native.Mathlib.Omega.{arith}
+use lib.Dec.{eqb, ltb, leb}
+use lib.ListN.{length, getD}
+use borrow.Author.Tests.{eqb-true, lt-ltb, le-ltb, leb-true, leb-false}
+use mir.Val.{boolByte}
+use Rattle.numbers.proofs.Bools.{and-left, and-right}
+use Rattle.constants.proofs.Trials.{by-shift}
+use Rattle.day_table.specs.Table.{entries}
+use Rattle.day_table.specs.Year.{newYear, monthOf, dayOf, monthAndDay}
+use Rattle.day_table.proofs.Records.{month}
+
+-- a test passes at each entry of a list and its place, counted from i
+every : (test : ℕ → ℕ → Bool) → ℕ → List ℕ → Bool
+every test i [] = true
+every test i (x ∷ xs) = test i x && every test (suc i) xs
+
+at-place : (test : ℕ → ℕ → Bool) (xs : List ℕ) (i : ℕ) → every test i xs ≡ true → (k : ℕ) → k < length xs → test (i + k) (getD xs k 0) ≡ true
+unfolding every
+at-place test [] i t k h = absurd (not-suc-le-zero h)
+at-place test (x ∷ xs) i t zero h = subst (λ (j : ℕ). test j x ≡ true) (sym (add-zero i)) (and-left (test i x) (every test (suc i) xs) t)
+at-place test (x ∷ xs) i t (suc k) h =
+    subst (λ (j : ℕ). test j (getD xs k 0) ≡ true) (suc-add i k ∙ sym (add-suc i k))
+    (at-place test xs (suc i) (and-right (test i x) (every test (suc i) xs) t) k (le-of-suc-le-suc h))
+
+-- past the end of a list
+past : (xs : List ℕ) (k : ℕ) → length xs ≤ k → getD xs k 0 ≡ 0
+past [] k h = refl
+past (x ∷ xs) zero h = absurd (not-suc-le-zero h)
+past (x ∷ xs) (suc k) h = past xs k (le-of-suc-le-suc h)
+
+-- the rule
+follows : ℕ → ℕ → Bool
+follows k x = eqb x (256 * monthOf k + dayOf k)
+
+all-follow : every follows 0 entries ≡ true
+unfolding every follows
+all-follow = refl
+
+pub entry-is : (k : ℕ) → k < 366 → getD entries k 0 ≡ 256 * monthOf k + dayOf k
+unfolding follows
+entry-is k h = subst (λ (j : ℕ). getD entries k 0 ≡ 256 * monthOf j + dayOf j) (zero-add k) (eqb-true _ _ (at-place follows entries 0 all-follow k h))
+
+pub no-entry : (k : ℕ) → 366 ≤ k → getD entries k 0 ≡ 0
+no-entry k h = past entries k h
+
+pub rule : (k : ℕ) → getD entries k 0 ≡ monthAndDay k
+unfolding monthAndDay
+rule k = go (decLt k 366)
+  where
+    go : Dec (k < 366) → getD entries k 0 ≡ cond (ltb k 366) (256 * monthOf k + dayOf k) 0
+    go (yes h) = rw (lt-ltb k 366 h) (entry-is k h)
+    go (no h) = rw (le-ltb k 366 (omega arith)) (no-entry k (omega arith))
+
+-- when month m begins, in days and in the product
+starts : (m : ℕ) → 3 ≤ m → m ≤ 14 → Dec (m < 4) →
+    (65536 * m ≤ 2141 * ((153 * m - 457) / 5) + 197913) × (2141 * ((153 * m - 457) / 5) + 197913 < 65536 * m + 2141)
+starts m lo hi (yes l) = let e : m ≡ 3 = omega arith in rw e (omega arith, omega arith)
+starts m lo hi (no l) = (omega arith, omega arith)
+
+left : (k m s f d : ℕ) → d + s ≡ k → f + 65536 * m ≡ 2141 * k + 197913 → 65536 * m ≤ 2141 * s + 197913 → 2141 * s + 197913 < 65536 * m + 2141 → f / 2141 ≡ d
+left k m s f d p q lo hi = omega arith
+
+-- January and February come after December
+pub new-year : (k : ℕ) → (newYear k ≤ 1) × (12 * newYear k ≤ (5 * k + 461) / 153)
+new-year k = go (leb 306 k) refl
+  where
+    go : (t : Bool) → leb 306 k ≡ t → (boolByte t ≤ 1) × (12 * boolByte t ≤ (5 * k + 461) / 153)
+    go true e = let l = leb-true 306 k e in (omega arith, omega arith)
+    go false e = (omega arith, omega arith)
+
+-- the product's month follows from its record, and the day from what is left of the product
+module _ (k : ℕ) (h : k < 366) where
+  pub month-is : (2141 * k + 197913) / 2 ^ 16 ≡ (5 * k + 461) / 153
+  month-is = by-shift 5 461 153 2141 197913 16 734 month k (omega arith)
+
+  pub day-is : (2141 * k + 197913) % 2 ^ 16 / 2141 ≡ (5 * k + 461) % 153 / 5
+  day-is =
+      let m = (5 * k + 461) / 153 in
+      let s = starts m (omega arith) (omega arith) (decLt m 4) in
+      left k m ((153 * m - 457) / 5) _ _ (omega arith) (omega (arith, month-is)) (s .0) (s .1)
+
+  pub coded-is : 256 * ((2141 * k + 197913) / 2 ^ 16 - 12 * newYear k) + (2141 * k + 197913) % 2 ^ 16 / 2141 + 1 ≡ getD entries k 0
+  coded-is = ap₂ (λ m d. 256 * (m - 12 * newYear k) + d + 1) month-is day-is ∙ omega (arith, entry-is k h)
