@@ -8,12 +8,12 @@ use native.Mathlib.Nat.{add-zero, zero-add, add-suc, suc-add, le-of-suc-le-suc, 
 use native.Mathlib.Omega.{arith}
 use lib.Dec.{eqb, ltb, leb}
 use lib.ListN.{length, getD}
-use borrow.Author.Tests.{eqb-true, lt-ltb, le-ltb, leb-true, leb-false}
+use borrow.Author.Tests.{eqb-true, lt-ltb, le-ltb, leb-true, leb-false, le-leb, lt-leb}
 use mir.Val.{boolByte}
 use Rattle.numbers.proofs.Bools.{and-left, and-right}
 use Rattle.constants.proofs.Trials.{by-shift}
 use Rattle.day_table.specs.Table.{entries}
-use Rattle.day_table.specs.Year.{newYear, monthOf, dayOf, monthAndDay}
+use Rattle.day_table.specs.Year.{newYear, monthOf, dayOf, monthAt, dayAt, monthAndDay}
 use Rattle.day_table.proofs.Records.{month}
 
 -- a test passes at each entry of a list and its place, counted from i
@@ -47,16 +47,28 @@ pub entry-is : (k : ℕ) → k < 366 → getD entries k 0 ≡ 256 * monthOf k + 
 unfolding follows
 entry-is k h = subst (λ (j : ℕ). getD entries k 0 ≡ 256 * monthOf j + dayOf j) (zero-add k) (eqb-true _ _ (at-place follows entries 0 all-follow k h))
 
-pub no-entry : (k : ℕ) → 366 ≤ k → getD entries k 0 ≡ 0
-no-entry k h = past entries k h
+-- a day of the year, and one that is none
+pub in-year : (k : ℕ) → k < 366 → (monthAt k ≡ monthOf k) × (dayAt k ≡ dayOf k)
+unfolding monthAt dayAt
+in-year k h = (rw (lt-ltb k 366 h), rw (lt-ltb k 366 h))
+
+pub past-year : (k : ℕ) → 366 ≤ k → (monthAt k ≡ 0) × (dayAt k ≡ 0)
+unfolding monthAt dayAt
+past-year k h = (rw (le-ltb k 366 h), rw (le-ltb k 366 h))
 
 pub rule : (k : ℕ) → getD entries k 0 ≡ monthAndDay k
-unfolding monthAndDay
 rule k = go (decLt k 366)
   where
-    go : Dec (k < 366) → getD entries k 0 ≡ cond (ltb k 366) (256 * monthOf k + dayOf k) 0
-    go (yes h) = rw (lt-ltb k 366 h) (entry-is k h)
-    go (no h) = rw (le-ltb k 366 (omega arith)) (no-entry k (omega arith))
+    go : Dec (k < 366) → getD entries k 0 ≡ monthAndDay k
+    go (yes h) = let e = in-year k h in entry-is k h ∙ ap₂ (λ m d. 256 * m + d) (sym (e .0)) (sym (e .1))
+    go (no h) = let e = past-year k (omega arith) in past entries k (omega arith) ∙ ap₂ (λ m d. 256 * m + d) (sym (e .0)) (sym (e .1))
+
+pub small : (k : ℕ) → (monthAt k ≤ 14) × (dayAt k ≤ 31)
+small k = go (decLt k 366)
+  where
+    go : Dec (k < 366) → (monthAt k ≤ 14) × (dayAt k ≤ 31)
+    go (yes h) = let e = in-year k h in (omega (arith, e .0), omega (arith, e .1))
+    go (no h) = let e = past-year k (omega arith) in (omega (arith, e .0), omega (arith, e .1))
 
 -- when month m begins, in days and in the product
 starts : (m : ℕ) → 3 ≤ m → m ≤ 14 → Dec (m < 4) →
@@ -86,5 +98,11 @@ module _ (k : ℕ) (h : k < 366) where
       let s = starts m (omega arith) (omega arith) (decLt m 4) in
       left k m ((153 * m - 457) / 5) _ _ (omega arith) (omega (arith, month-is)) (s .0) (s .1)
 
-  pub coded-is : 256 * ((2141 * k + 197913) / 2 ^ 16 - 12 * newYear k) + (2141 * k + 197913) % 2 ^ 16 / 2141 + 1 ≡ getD entries k 0
-  coded-is = ap₂ (λ m d. 256 * (m - 12 * newYear k) + d + 1) month-is day-is ∙ omega (arith, entry-is k h)
+  pub month-late : 306 ≤ k → (2141 * k + 197913) / 2 ^ 16 - 12 ≡ monthAt k
+  month-late l = ap (λ m. m - 12) month-is ∙ sym (in-year k h .0 ∙ rw (le-leb 306 k l))
+
+  pub month-early : k < 306 → (2141 * k + 197913) / 2 ^ 16 ≡ monthAt k
+  month-early l = month-is ∙ sym (in-year k h .0 ∙ rw (lt-leb 306 k l) (omega arith))
+
+  pub day-at : (2141 * k + 197913) % 2 ^ 16 / 2141 + 1 ≡ dayAt k
+  day-at = ap (λ d. d + 1) day-is ∙ sym (in-year k h .1)

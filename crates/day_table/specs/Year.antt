@@ -15,6 +15,13 @@ monthOf k = (5 * k + 461) / 153 - 12 * newYear k
 abbrev pub dayOf : ℕ → ℕ
 dayOf k = (5 * k + 461) % 153 / 5 + 1
 
--- both as one number; 0 where the year has no such day
-unfoldable pub monthAndDay : ℕ → ℕ
-monthAndDay k = cond (ltb k 366) (256 * monthOf k + dayOf k) 0
+-- the same, and 0 where the year has no such day
+unfoldable pub monthAt : ℕ → ℕ
+monthAt k = cond (ltb k 366) (monthOf k) 0
+
+unfoldable pub dayAt : ℕ → ℕ
+dayAt k = cond (ltb k 366) (dayOf k) 0
+
+-- both as one number
+abbrev pub monthAndDay : ℕ → ℕ
+monthAndDay k = 256 * monthAt k + dayAt k

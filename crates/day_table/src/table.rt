@@ -1,6 +1,6 @@
 // Made by tools/make_day_table: the table as a match, of which the compiler makes one in the archive.
 
-use super::by_rule;
+use super::by_product;
 ghost use mathlib.Core.Path.{_≡_};
 ghost use lib.ListN.{getD};
 ghost use Rattle.day_table.specs.Table.{entries};
@@ -377,6 +377,6 @@ pub fn entry(k: u64) -> u16
         364 => 540,
         365 => 541,
         // 366 and more; for a k that is seen to be less the compiler leaves this arm out
-        _ => by_rule(k),
+        _ => by_product(k),
     }
 }
