@@ -18,6 +18,7 @@ use Rattle.calendar.specs.Closed.{cycle, fromYear, baseYear, lastDay, fi
 use Rattle.calendar.proofs.Leap.{leaps-step, leaps-next, few}
 use Rattle.calendar.proofs.Months.{before-early, before-late}
 use Rattle.calendar.proofs.Steps.{number-in-range}
+use Rattle.calendar.proofs.Quotients.{hundredth-product}
 use Rattle.calendar.proofs.March.{centuryOf, dayOfCentury, yearOfCentury, dayOfMarchYear, century-sum, algorithm-3}
 
 -- a date of natural numbers as the machine makes it
@@ -90,22 +91,22 @@ pub before-march-le : (m : ℕ) → beforeMarch m ≤ 1
 before-march-le m = flag-le (leb m 2)
 
 -- algorithm 4 of source document 000, section 6, with the table of the days before each month
-early-sum : (y Y L B b d A C D : ℕ) → Y + 1 ≡ y → L + C ≡ A + D + 1 → C ≤ A → B ≡ b → 1 ≤ d → 365 * y + A - C + D + B + d ≡ 365 * y + L + b + (d - 1)
+early-sum : (y Y L B b d A C D : ℕ) → Y + 1 ≡ y → L + C ≡ A + D + 1 → C ≤ A → B ≡ b → 1 ≤ d → 365 * y + B + d + (A - C + D) ≡ 365 * y + L + b + (d - 1)
 early-sum y Y L B b d A C D e p k q h = omega arith
 
-late-sum : (y L L′ l B b d A C D : ℕ) → L′ ≡ L + l → L′ + C ≡ A + D + 1 → C ≤ A → b ≡ B + l → 1 ≤ d → 365 * y + A - C + D + B + d ≡ 365 * y + L + b + (d - 1)
+late-sum : (y L L′ l B b d A C D : ℕ) → L′ ≡ L + l → L′ + C ≡ A + D + 1 → C ≤ A → b ≡ B + l → 1 ≤ d → 365 * y + B + d + (A - C + D) ≡ 365 * y + L + b + (d - 1)
 late-sum y L L′ l B b d A C D e p k q h = omega arith
 
--- the sum that the code takes, with b days before the month
-abbrev pub daySum : (y m b d : ℕ) → ℕ
-daySum y m b d = 365 * y + (y - beforeMarch m) / 4 - (y - beforeMarch m) / 100 + (y - beforeMarch m) / 100 / 4 + b + d
+-- the sum that the code takes, with b days before the month and the century c
+abbrev pub daySum : (y m b c d : ℕ) → ℕ
+daySum y m b c d = 365 * y + b + d + ((y - beforeMarch m) / 4 - c + c / 4)
 
-algorithm-4 : (y m d b : ℕ) → Valid y m d → fromYear ≤ y → b ≡ before 0 m → daySum y m b d ≡ dayNumber y m d
+algorithm-4 : (y m d b : ℕ) → Valid y m d → fromYear ≤ y → b ≡ before 0 m → daySum y m b ((y - beforeMarch m) / 100) d ≡ dayNumber y m d
 unfolding dayNumber start
 algorithm-4 y m d b v lo f = go (leb m 2) refl
   where
     go : (t : Bool) → leb m 2 ≡ t →
-        365 * y + (y - boolByte t) / 4 - (y - boolByte t) / 100 + (y - boolByte t) / 100 / 4 + b + d
+        365 * y + b + d + ((y - boolByte t) / 4 - (y - boolByte t) / 100 + (y - boolByte t) / 100 / 4)
         ≡ 365 * y + leaps y + before (leapDay y) m + (d - 1)
     go true e =
         let h = leb-true m 2 e in
@@ -119,11 +120,13 @@ algorithm-4 y m d b v lo f = go (leb m 2) refl
         (late-sum y (leaps y) (leaps (y + 1)) (leapDay y) b (before (leapDay y) m) d _ _ _ (leaps-step y) (leaps-next y)
         (few y) (before-late (leapDay y) m (omega arith) (v .month-high) ∙ ap (λ b. b + leapDay y) (sym f)) (v .day-low))
 
--- it is the day's number, and lies in the range
+-- with the century by its product it is the day's number, and lies in the range
 pub day-number :
     (y m d b : ℕ) → InRange y m d → b ≡ before 0 m →
-    (daySum y m b d ≡ dayNumber y m d) × ((cycle ≤ daySum y m b d) × (daySum y m b d ≤ cycle + lastDay))
+    let s = daySum y m b ((y - beforeMarch m) * 167773 / 2 ^ 24) d in
+    (s ≡ dayNumber y m d) × ((cycle ≤ s) × (s ≤ cycle + lastDay))
 day-number y m d b r e =
-    let s = algorithm-4 y m d b (r .is-valid) (r .from) e in
+    let p = hundredth-product (y - beforeMarch m) (omega (arith, r .to)) in
+    let s = ap (λ c. daySum y m b c d) p ∙ algorithm-4 y m d b (r .is-valid) (r .from) e in
     let c = number-in-range y m d r in
     (s, (subst (λ n. cycle ≤ n) (sym s) (c .0), subst (λ n. n ≤ cycle + lastDay) (sym s) (c .1)))

@@ -3,9 +3,11 @@ use Prim.Native.Nat.{ℕ, _+_, _-_, _≤_}
 use mathlib.Core.Path.{_≡_, refl, sym, ap, _∙_, subst}
 use mathlib.Core.Bool.{Bool, true, false, cond}
 use native.Mathlib.Omega.{arith}
+use lib.Dec.{T}
 use lib.IntN.{ℤ, pos, natAbs, _+ℤ_, +ℤ-assoc}
+use lib.Signed.{nonNeg}
 use mir.Syntax.{w64}
-use mir.Val.{SFits}
+use mir.Val.{SFits, Fits}
 use Rattle.refusal.specs.declared.Refusal.{Refusal}
 use Rattle.refusal.specs.Numbers.{refusalNumber}
 use Rattle.refusal.specs.Outcome.{Outcome, value, refused}
@@ -13,20 +15,21 @@ use Rattle.numbers.specs.Range.{outside, since}
 use Rattle.numbers.proofs.Integers.{inside, since-add}
 use Rattle.numbers.proofs.Between.{natural-within}
 use Rattle.numbers.proofs.Based as based
-use Rattle.numbers.proofs.Machine.{read}
+use Rattle.numbers.proofs.Machine.{read, cast-pos}
 use Rattle.calendar.specs.declared.Date.{Date}
 use Rattle.calendar.specs.declared.Checked.{Checked}
 use Rattle.calendar.specs.declared.Checked.the-variants as C
 use Rattle.calendar.specs.Range.{firstYear, lastYear, firstCount, lastCount}
 use Rattle.calendar.specs.Gregorian.{monthLength, dateOf, dateAfter, ValidDate}
 use Rattle.calendar.specs.Count.{dateOfCount, countOfDate, dayOfYear}
-use Rattle.calendar.specs.Answers.{lastDayAnswer, ofDate, daysAnswer, civilAnswer, addDaysAnswer}
+use Rattle.calendar.specs.Answers.{ofDate, daysAnswer, civilAnswer, addDaysAnswer}
 use Rattle.calendar.specs.Checked.{checkedOutcome}
 use Rattle.calendar.specs.Closed.{baseYear, baseCount, cycle, lastDay, leapDay, monthDays, before, Valid, InRange, dayNumber, public}
 use Rattle.calendar.proofs.Leap.{leap-le}
-use Rattle.calendar.proofs.Months.{length-le, length-public, before-public}
+use Rattle.calendar.proofs.Months.{length-le, before-public}
+use Rattle.calendar.proofs.DayTests.{accepted-length}
 use Rattle.calendar.proofs.Steps.{found, number-in-range, count-after}
-use Rattle.calendar.proofs.Tests.{month-accepted, day-decides, accepted-valid, accepted-is, accepted-answer, date-refused, of-read}
+use Rattle.calendar.proofs.Tests.{day-decides, accepted-valid, accepted-is, accepted-answer, date-refused, of-read}
 
 -- a date in natural numbers
 pub record NaturalDate (date : Date) : Type 0 where
@@ -41,17 +44,16 @@ pub natural : (d : Date) → ValidDate d → NaturalDate d
 natural date v =
     let y = since baseYear (date .year) in
     let m = natAbs (date .month) in
-    let p = sym (based.is baseYear firstYear lastYear refl refl (date .year) (v .year-inside)) in
+    let e = based.is baseYear firstYear lastYear refl refl (date .year) (v .year-inside) in
     let mo = natural-within 1 (pos 12) (date .month) (v .month-inside) in
-    let len : monthLength (date .year) (date .month) ≡ pos (monthDays (leapDay y) m) =
-    (λ i. monthLength (p i) (mo .is i)) ∙ length-public y m (mo .low) (mo .high) in
+    let len = accepted-length (date .year) (date .month) y (v .month-inside) e in
     let da = natural-within 1 (pos (monthDays (leapDay y) m)) (date .day) (ap (λ l. outside (pos 1) l (date .day)) (sym len) ∙ v .day-inside) in
     let w : Valid y m (natAbs (date .day)) = record { month-low = mo .low; month-high = mo .high; day-low = da .low; day-high = da .high } in
     record {
       y = y;
       m = m;
       d = natAbs (date .day);
-      is = (λ i. record { year = p i; month = mo .is i; day = da .is i });
+      is = (λ i. record { year = sym e i; month = mo .is i; day = da .is i });
       is-valid = w;
       in-range =
           record {
@@ -112,38 +114,38 @@ count-inside d v =
     let k = counted d v in
     ap (outside firstCount lastCount) (k .count-is) ∙ inside firstCount lastCount refl (k .n) (k .small)
 
--- what the test of the day makes of a month that was accepted
-module _ (year month day len : ℤ) (e : value len ≡ lastDayAnswer year month) where
-  month-tests : (outside firstYear lastYear year ≡ false) × ((outside (pos 1) (pos 12) month ≡ false) × (len ≡ monthLength year month))
-  month-tests = month-accepted year month len e
+-- what the test of the day makes of a year and a month that were accepted
+module _ (year month day : ℤ) (y : ℕ) (p : outside firstYear lastYear year ≡ false) (q : outside (pos 1) (pos 12) month ≡ false)
+    (e : baseYear +ℤ pos y ≡ year) where
+  day-tested : {t : Bool} → outside (pos 1) (pos (monthDays (leapDay y) (natAbs month))) day ≡ t → outside (pos 1) (monthLength year month) day ≡ t
+  day-tested h = ap (λ l. outside (pos 1) l day) (accepted-length year month y q e) ∙ h
 
-  decided : {t : Bool} → outside (pos 1) len day ≡ t → ofDate year month day value ≡ cond t (refused 3) (value (dateOf year month day))
-  decided h =
-      day-decides year month day value (month-tests .0) (month-tests .1 .0)
-      ∙ ap (λ t. cond t (refused 3) (value (dateOf year month day))) (ap (λ l. outside (pos 1) l day) (sym (month-tests .1 .1)) ∙ h)
+  decided :
+      {t : Bool} → outside (pos 1) (monthLength year month) day ≡ t →
+      ofDate year month day value ≡ cond t (refused 3) (value (dateOf year month day))
+  decided h = day-decides year month day value p q ∙ ap (λ t. cond t (refused 3) (value (dateOf year month day))) h
 
-  pub day-refused : outside (pos 1) len day ≡ true → refused 3 ≡ ofDate year month day value
-  day-refused h = sym (decided h)
+  pub day-refused : outside (pos 1) (pos (monthDays (leapDay y) (natAbs month))) day ≡ true → refused 3 ≡ ofDate year month day value
+  day-refused h = sym (decided (day-tested h))
 
-  module _ (h : outside (pos 1) len day ≡ false) where
-    pub day-accepted : ValidDate (dateOf year month day)
-    day-accepted =
-        record {
-          year-inside = month-tests .0;
-          month-inside = month-tests .1 .0;
-          day-inside = ap (λ l. outside (pos 1) l day) (sym (month-tests .1 .1)) ∙ h;
-        }
+  module _ (h : outside (pos 1) (pos (monthDays (leapDay y) (natAbs month))) day ≡ false) where
+    accepted : ValidDate (dateOf year month day)
+    accepted = record { year-inside = p; month-inside = q; day-inside = day-tested h }
+
+    pub day-cast : T (nonNeg day) × Fits w64 (natAbs day)
+    day-cast =
+        let n = natural (dateOf year month day) accepted in
+        cast-pos w64 (n .d) (omega (arith, day-small (n .y) (n .m) (n .d) (n .is-valid))) (ap (λ (d : Date). d .day) (n .is))
 
     pub date-accepted :
-        (y : ℕ) → baseYear +ℤ pos y ≡ year →
         (value (public y (natAbs month) (natAbs day)) ≡ ofDate year month day value)
         × InRange y (natAbs month) (natAbs day)
     unfolding natural
-    date-accepted y p =
-        let n = natural (dateOf year month day) day-accepted in
-        let q : since baseYear year ≡ y = ap (since baseYear) (sym p) ∙ since-add baseYear y in (
-          ap value ((λ i. public (sym q i) (natAbs month) (natAbs day)) ∙ sym (n .is)) ∙ sym (decided h),
-          subst (λ y. InRange y (natAbs month) (natAbs day)) q (n .in-range),
+    date-accepted =
+        let n = natural (dateOf year month day) accepted in
+        let s : since baseYear year ≡ y = ap (since baseYear) (sym e) ∙ since-add baseYear y in (
+          ap value ((λ i. public (sym s i) (natAbs month) (natAbs day)) ∙ sym (n .is)) ∙ sym (decided (day-tested h)),
+          subst (λ y. InRange y (natAbs month) (natAbs day)) s (n .in-range),
         )
 
 -- shifted dates

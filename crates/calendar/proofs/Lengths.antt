@@ -20,7 +20,7 @@ use Rattle.calendar.specs.Gregorian.{monthLength}
 use Rattle.calendar.specs.Answers.{lastDayAnswer}
 use Rattle.calendar.specs.Checked.{lengthAnswer}
 use Rattle.calendar.specs.Closed.{baseYear, leapDay, monthDays}
-use Rattle.calendar.proofs.Months.{each-month, length-le, length-public}
+use Rattle.calendar.proofs.Months.{each-month, length-le, length-public, with-leap-day}
 
 -- the length with the year's leap days is what `last_day_of_month` answers
 pub length-of-year :
@@ -79,11 +79,6 @@ pub length-refused : (l k : ℕ) (month : ℤ) → refused k ≡ lengthAnswer 0 
 unfolding lengthAnswer
 length-refused l k month = refuses (outside (pos 1) (pos 12) month) 2 _ _ (not-refused _ _)
 
--- the leap day falls into February
-with-leap-day : (l m : ℕ) → 1 ≤ m → m ≤ 12 → monthDays l m ≡ monthDays 0 m + boolByte (eqb m 2) * l
-unfolding monthDays
-with-leap-day l = each-month (λ m. monthDays l m ≡ monthDays 0 m + boolByte (eqb m 2) * l) (omega arith)
-
 -- the length of an accepted month with the leap day
 module _ (month len : ℤ) (l : ℕ) (h : l ≤ 1) (e : value len ≡ lengthAnswer 0 month) where
   passed : (outside (pos 1) (pos 12) month ≡ false) × (len ≡ pos (monthDays 0 (natAbs month)))
@@ -97,7 +92,7 @@ module _ (month len : ℤ) (l : ℕ) (h : l ≤ 1) (e : value len ≡ lengthAnsw
   days =
       let n = number in
       ap (λ (z : ℤ). monthDays 0 (natAbs month) + boolByte (eqb (ofZ w64 z) 2) * l) (n .is)
-      ∙ sym (with-leap-day l (natAbs month) (n .low) (n .high))
+      ∙ with-leap-day l (natAbs month) (n .low) (n .high)
 
   small : monthDays l (natAbs month) ≤ 31
   small = length-le l (natAbs month) h (number .low) (number .high)

@@ -7,6 +7,7 @@ pub mod Steps
 pub mod Counts
 pub mod Weekdays
 pub mod Lengths
+pub mod DayTests
 pub mod Tests
 pub mod Dates
 pub mod Centuries

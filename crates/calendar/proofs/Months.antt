@@ -7,7 +7,7 @@ use native.Mathlib.Decide.{decLt}
 use native.Mathlib.Nat.{le-refl, le-trans, add-zero, add-suc}
 use native.Mathlib.Numerals.{add-one}
 use mathlib.Core.List.{List, [], _∷_}
-use lib.Dec.{ltb}
+use lib.Dec.{eqb, ltb}
 use lib.IntN.{pos, _+ℤ_}
 use lib.ListN.{getD, take}
 use mir.Val.{boolByte}
@@ -113,6 +113,11 @@ unfolding days-from-march
 march-rule m lo hi =
     subst (λ m. (getD days-from-march (m - 3) 0 ≡ fromMarch m) × (fromMarch m ≤ 337)) (omega arith)
     (each-month (λ i. (getD days-from-march (i + 2 - 3) 0 ≡ fromMarch (i + 2)) × (fromMarch (i + 2) ≤ 337)) (omega arith) (m - 2) (omega arith) (omega arith))
+
+-- the leap day falls into February
+pub with-leap-day : (l m : ℕ) → 1 ≤ m → m ≤ 12 → monthDays 0 m + boolByte (eqb m 2) * l ≡ monthDays l m
+unfolding monthDays
+with-leap-day l = each-month (λ m. monthDays 0 m + boolByte (eqb m 2) * l ≡ monthDays l m) (omega arith)
 
 -- the leap day counts from March on
 pub before-leap : (l m : ℕ) → 1 ≤ m → m ≤ 12 → before 0 m + boolByte (ltb 2 m) * l ≡ before l m

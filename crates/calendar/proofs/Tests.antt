@@ -13,24 +13,7 @@ use Rattle.numbers.proofs.Machine.{read}
 use Rattle.calendar.specs.declared.Date.{Date}
 use Rattle.calendar.specs.Range.{firstYear, lastYear}
 use Rattle.calendar.specs.Gregorian.{monthLength, dateOf, ValidDate}
-use Rattle.calendar.specs.Answers.{lastDayAnswer, ofDate, daysAnswer}
-
--- year and month
-pub month-accepted :
-    (year month n : ℤ) → value n ≡ lastDayAnswer year month →
-    (outside firstYear lastYear year ≡ false) × ((outside (pos 1) (pos 12) month ≡ false) × (n ≡ monthLength year month))
-unfolding lastDayAnswer
-month-accepted year month n e =
-    let a = passes (outside firstYear lastYear year) 1 _ e in
-    let b = passes (outside (pos 1) (pos 12) month) 2 _ (a .1) in
-    (a .0, (b .0, same-value (b .1)))
-
-pub month-refused :
-    {A : Type 0} (year month day : ℤ) (f : Date → Outcome A) (k : ℕ) → refused k ≡ lastDayAnswer year month →
-    refused k ≡ ofDate year month day f
-unfolding lastDayAnswer ofDate
-month-refused year month day f k =
-    refuses (outside firstYear lastYear year) 1 _ _ (refuses (outside (pos 1) (pos 12) month) 2 _ _ (not-refused _ _))
+use Rattle.calendar.specs.Answers.{ofDate, daysAnswer}
 
 -- the day, after year and month
 pub day-decides :

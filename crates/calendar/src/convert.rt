@@ -1,6 +1,7 @@
 // The day of a date in unsigned arithmetic: source document 000, section 6, algorithm 4, in the paper's names. Years are counted from
 // BASE_YEAR, which is a multiple of 400, and run to toYear.
 
+use super::products::HUNDREDTH;
 use super::year;
 ghost use mathlib.Core.Path.{_≡_};
 ghost use Prim.Native.Nat.{_≤_, _+_};
@@ -13,6 +14,6 @@ pub fn days_since_base(y: u64, m: u64, d: u64) -> u64
     ensures { λ r. ⌜ (r ≡ dayNumber y m d) × ((cycle ≤ r) × (r ≤ cycle + lastDay)) ⌝ }
 {
     let y_m = y - (m <= 2) as u64; // [399, toYear], from March to February
-    let c = y_m / 100; // [3, toYear / 100]
-    365 * y + y_m / 4 - c + c / 4 + year::days_before(m) + d
+    let c = (y_m * HUNDREDTH) >> 24; // y_m / 100
+    365 * y + year::days_before(m) + d + (y_m / 4 - c + c / 4)
 }

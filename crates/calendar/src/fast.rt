@@ -13,7 +13,7 @@ ghost use Rattle.calendar.specs.Gregorian.{dateAfter};
 ghost use Rattle.calendar.specs.Closed.{lastDay, daysEnd, regularDay};
 
 // The first day of the range, counted from 1 March of BASE_YEAR: January and February of a leap year have 60 days.
-const FIRST_FROM_MARCH: u64 = CYCLE - 60;
+pub const FIRST_FROM_MARCH: u64 = CYCLE - 60;
 
 // The date n days after the first.
 pub fn date_after(n: u64) -> Date
@@ -21,16 +21,16 @@ pub fn date_after(n: u64) -> Date
     ensures { λ r. ⌜ r ≡ dateAfter n ⌝ }
 {
     let d = regular(n + FIRST_FROM_MARCH);
-    let entry = day_table::month_and_day(day_of_year(d));
+    let k = day_of_year(d);
     Date {
         year: january_year(d) as i64 + BASE_YEAR,
-        month: (entry / 256) as i64,
-        day: (entry % 256) as i64,
+        month: day_table::month(k) as i64,
+        day: day_table::day(k) as i64,
     }
 }
 
 // Day n as if every fourth year were leap, counted from 1.
-fn regular(n: u64) -> u64
+pub fn regular(n: u64) -> u64
     requires { ⌜ n < daysEnd ⌝ }
     ensures { λ r. ⌜ r ≡ regularDay n + 1 ⌝ }
 {
@@ -40,7 +40,7 @@ fn regular(n: u64) -> u64
 }
 
 // The day of the year of a regular day, from 0: what is left of the product is its part of a year, which has 1461 quarters of a day.
-fn day_of_year(d: u64) -> u64
+pub fn day_of_year(d: u64) -> u64
     requires { ⌜ (1 ≤ d) × (d ≤ daysEnd) ⌝ }
     ensures { λ r. ⌜ r ≡ (4 * d - 1) % 1461 / 4 ⌝ }
 {
@@ -48,7 +48,7 @@ fn day_of_year(d: u64) -> u64
 }
 
 // The year of a regular day, if it were to begin in January.
-fn january_year(d: u64) -> u64
+pub fn january_year(d: u64) -> u64
     requires { ⌜ d ≤ daysEnd ⌝ }
     ensures { λ r. ⌜ r ≡ (4 * d + 236) / 1461 ⌝ }
 {

@@ -13,6 +13,7 @@
 use base::BASE_COUNT;
 use base::BASE_YEAR;
 use base::FIRST_AFTER_MONDAY;
+use day_test::has_day;
 use length_by_bits::month_length;
 use range::FIRST_COUNT;
 use range::FIRST_YEAR;
@@ -24,9 +25,11 @@ use refusal::Refusal;
 pub mod audit;
 pub mod base;
 mod convert;
+mod day_test;
 mod fast;
 mod length_by_bits;
 mod length_by_match;
+pub mod month_table;
 pub mod plain;
 pub mod products;
 pub mod range;
@@ -150,15 +153,18 @@ enum Checked {
 fn check_date(year: i64, month: i64, day: i64) -> Checked
     ensures { λ r. ⌜ (checkedOutcome r ≡ ofDate year month day value) × CheckedInRange r ⌝ }
 {
-    match last_day_of_month(year, month) {
-        NumberAnswer::Value(length) => {
-            if numbers::outside(1, length, day) {
-                return Checked::Refused(Refusal::DayOutOfRange);
-            }
-            Checked::Accepted(years_from_base(year), month as u64, day as u64)
-        }
-        NumberAnswer::Refused(r) => Checked::Refused(r),
+    if numbers::outside(FIRST_YEAR, LAST_YEAR, year) {
+        return Checked::Refused(Refusal::YearOutOfRange);
     }
+    if numbers::outside(1, 12, month) {
+        return Checked::Refused(Refusal::MonthOutOfRange);
+    }
+    let y = years_from_base(year);
+    let m = month as u64;
+    if !has_day(y, m, day) {
+        return Checked::Refused(Refusal::DayOutOfRange);
+    }
+    Checked::Accepted(y, m, day as u64)
 }
 
 // The date of a count in the range.

@@ -1,35 +1,40 @@
--- The month is accepted or refused by itself; then the day is tested against the month's length.
-use Rattle.calendar.specs.declared.Date.{Date}
-use Rattle.calendar.specs.Answers.{lastDayAnswer}
-use Rattle.calendar.specs.Gregorian.{dateOf, ValidDate}
-use Rattle.calendar.proofs.Dates.{natural, day-small, day-refused, day-accepted, date-accepted}
-use Rattle.calendar.proofs.Tests.{month-refused, of-read}
-use Rattle.numbers.proofs.Machine.{read, cast-pos}
-use Rattle.refusal.specs.Numbers.{refusalNumber}
-use Rattle.refusal.specs.Outcome.{numberOutcome, value}
-use mir.Facts.{toZ-ofZ}
-use mir.Val.{SFits}
-use mir.Syntax.{w64}
-use lib.IntN.{ℤ}
-use native.Mathlib.Omega.{arith}
-use mathlib.Core.Path.{_≡_, sym, ap, _∙_}
+-- The year and the month are accepted or refused by themselves; then the day is tested.
+use Rattle.calendar.specs.Answers.{ofDate}
+use Rattle.calendar.specs.Closed.{leapDay, monthDays}
+use Rattle.calendar.specs.Range.{firstYear, lastYear}
+use Rattle.calendar.proofs.Dates.{day-refused, day-cast, date-accepted}
+use Rattle.calendar.proofs.DayTests.{accepted-cast, accepted-within}
+use Rattle.calendar.proofs.Tests.{of-read}
+use Rattle.numbers.specs.Range.{outside}
+use Rattle.numbers.proofs.Machine.{read, answered}
+use Rattle.refusal.specs.Outcome.{value}
+use lib.IntN.{ℤ, pos, natAbs}
+use borrow.Author.Tests.{not-true, not-false}
+use mathlib.Core.Bool.{false}
+use mathlib.Core.Path.{_≡_, sym, _∙_}
 use borrow.Author.Needs.{needs}
 use Rattle.calendar.proofs.check_date.Statement.{statement}
 use Rattle.calendar.proofs.check_date.Tie as tie
 
-last-day-of-month-requires : tie.Need-last-day-of-month-requires
-last-day-of-month-requires c κs = search needs
+returns : tie.Need-returns
+unfolding ofDate
+returns c = (rw (answered firstYear lastYear (c .before .before .fits .year) (c .before .outside .ensures) (c .if1 .taken)), tt)
 
-enum-known-length : tie.Need-enum-known-length
-enum-known-length c = search needs
+returns-2 : tie.Need-returns-2
+unfolding ofDate
+returns-2 c = let e = c .before .before in
+    let f = e .before .before .fits in (
+      rw (
+        answered firstYear lastYear (f .year) (e .before .outside .ensures) (e .if1 .left),
+        answered (pos 1) (pos 12) (f .month) (c .before .outside2 .ensures) (c .if2 .taken),
+      ),
+      tt,
+    )
 
-outside-requires : tie.Need-outside-requires
-outside-requires c κs = search needs
-
--- what is known after the day was tested: the date that was read, and its month is accepted
-module _ (c : tie.After-outside) where
+-- what is known after the year and the month were accepted: the date that was read
+module _ (c : tie.Else2) where
   abbrev start : tie.Start
-  start = c .before .before .before .before .before
+  start = c .before .before .before .before
 
   abbrev year : ℤ
   year = read (start .args .year)
@@ -40,62 +45,59 @@ module _ (c : tie.After-outside) where
   abbrev day : ℤ
   day = read (start .args .day)
 
-  abbrev len : ℤ
-  len = read (c .before .before .length .given .0 .0)
+  year-inside : outside firstYear lastYear year ≡ false
+  year-inside = let e = c .before .before in sym (e .before .outside .ensures) ∙ e .if1 .left
 
-  accepted : value len ≡ lastDayAnswer year month
-  accepted =
-      let g = c .before .before .length .given in
-      let f : SFits w64 (g .0 .0) = search needs in
-      ap value (toZ-ofZ f) ∙ ap numberOutcome (sym (g .1)) ∙ c .before .before .before .before .last-day-of-month .ensures
-
-returns : tie.Need-returns
-returns c = let k = c .before in
-    let f = start k .fits in
-    (day-refused (year k) (month k) (day k) (len k) (accepted k) (sym (k .outside .ensures) ∙ c .if1 .taken) ∙ of-read (f .year) (f .month) (f .day) value, tt)
-
-valid : (c : tie.Else1) → let k = c .before in ValidDate (dateOf (year k) (month k) (day k))
-valid c = let k = c .before in day-accepted (year k) (month k) (day k) (len k) (accepted k) (sym (k .outside .ensures) ∙ c .if1 .left)
+  month-inside : outside (pos 1) (pos 12) month ≡ false
+  month-inside = sym (c .before .outside2 .ensures) ∙ c .if2 .left
 
 years-from-base-requires : tie.Need-years-from-base-requires
-years-from-base-requires c κs = valid c .year-inside
+years-from-base-requires c κs = year-inside c
 
-cast-t11 : tie.Need-cast-t11
-cast-t11 c = let n = natural _ (valid (c .before)) in cast-pos w64 (n .m) (omega (arith, n .is-valid .month-high)) (ap (λ (d : Date). d .month) (n .is))
+cast-m : tie.Need-cast-m
+cast-m c = accepted-cast (month (c .before)) (month-inside (c .before))
 
-cast-t12 : tie.Need-cast-t12
-cast-t12 c = let n = natural _ (valid (c .before)) in
-    cast-pos w64 (n .d) (omega (arith, day-small (n .y) (n .m) (n .d) (n .is-valid))) (ap (λ (d : Date). d .day) (n .is))
-
-enum-known-r : tie.Need-enum-known-r
-enum-known-r c = search needs
-
-returns-2 : tie.Need-returns-2
-returns-2 c = let k = c .before .before in
-    let f = start k .fits in
-    let a = date-accepted (year k) (month k) (day k) (len k) (accepted k) (sym (k .outside .ensures) ∙ c .before .if1 .left) (c .years-from-base .result) (c .years-from-base .ensures .0) in
-    (a .0 ∙ of-read (f .year) (f .month) (f .day) value, a .1)
+has-day-requires : tie.Need-has-day-requires
+has-day-requires c κs = accepted-within (month (c .before)) (month-inside (c .before))
 
 returns-3 : tie.Need-returns-3
-returns-3 c = let s = c .before .before .before .before in
-    let g = c .before .r .given in (
-      month-refused (read (s .args .year)) (read (s .args .month)) (read (s .args .day)) value (refusalNumber (g .0 .0))
-          (ap numberOutcome (sym (g .1)) ∙ c .before .before .before .last-day-of-month .ensures)
-          ∙ of-read (s .fits .year) (s .fits .month) (s .fits .day) value,
+returns-3 c = let b = c .before .before in
+    let e = b .before in
+    let f = start e .fits in (
+      day-refused (year e) (month e) (day e) (b .years-from-base .result) (year-inside e) (month-inside e) (b .years-from-base .ensures .0)
+          (not-false _ (sym (c .before .has-day .ensures) ∙ not-true _ (c .if3 .taken)))
+          ∙ of-read (f .year) (f .month) (f .day) value,
       tt,
     )
+
+-- the month has the day
+day-inside : (c : tie.Else3) → let b = c .before .before in
+    outside (pos 1) (pos (monthDays (leapDay (b .years-from-base .result)) (natAbs (month (b .before))))) (day (b .before)) ≡ false
+day-inside c = not-true _ (sym (c .before .has-day .ensures) ∙ not-false _ (c .if3 .left))
+
+cast-t13 : tie.Need-cast-t13
+cast-t13 c = let b = c .before .before in
+    let e = b .before in
+    day-cast (year e) (month e) (day e) (b .years-from-base .result) (year-inside e) (month-inside e) (b .years-from-base .ensures .0) (day-inside c)
+
+returns-4 : tie.Need-returns-4
+returns-4 c = let b = c .before .before in
+    let e = b .before in
+    let f = start e .fits in
+    let a = date-accepted (year e) (month e) (day e) (b .years-from-base .result) (year-inside e) (month-inside e) (b .years-from-base .ensures .0) (day-inside c) in
+    (a .0 ∙ of-read (f .year) (f .month) (f .day) value, a .1)
 
 pub check-date-spec : {M : Type 1} → statement M
 check-date-spec =
     tie.close
     (tie.spec
-    last-day-of-month-requires
-    enum-known-length
-    outside-requires
+    (λ c κs. search needs)
     returns
-    years-from-base-requires
-    cast-t11
-    cast-t12
-    enum-known-r
+    (λ c κs. search needs)
     returns-2
-    returns-3)
+    years-from-base-requires
+    cast-m
+    has-day-requires
+    returns-3
+    cast-t13
+    returns-4)
