@@ -69,7 +69,7 @@ pub extern "C" fn ovenquill_civil_from_days(days: i64, date: &mut [i64; 3]) -> i
     ensures answer { λ r. ⌜ r ≡ returnedDone (civilAnswer days) ⌝ }
     ensures date { λ r. ⌜ now (date .exit) ≡ afterCall (civilAnswer days) dateNumbers (now (date .entry)) ⌝ }
 {
-    give::date(calendar::civil_from_days(days), date)
+    give::date(calendar::month_table::civil_from_days(days), date)
 }
 
 #[no_mangle]
