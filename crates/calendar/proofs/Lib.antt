@@ -20,3 +20,4 @@ pub mod Laws
 pub mod Epoch
 pub mod WeekdayLaws
 pub mod BothWays
+pub mod AllWays
