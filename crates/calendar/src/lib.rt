@@ -8,7 +8,9 @@
 //     day_of_year(year, month, day)            1 to 366        refusals 1, 2, 3
 //     add_days(year, month, day, days)         shifted date    refusals 1, 2, 3, then 4
 //
-// The module `range` has the first and last year and count, `base` the year and the count that code counts from.
+// civil_from_days goes by products in place of divisions. `plain`, `audit` and `month_table` have the same call by other ways: by ordinary
+// divisions, by a table of the years of a cycle, and by products and a table of the days of a year. The module `range` has the first and
+// last year and count, `base` the year and the count that code counts from, `products` the multipliers.
 
 use base::BASE_COUNT;
 use base::BASE_YEAR;
