@@ -5,6 +5,7 @@ use mathlib.Core.Bool.{Bool, true, false, not}
 use native.Mathlib.Omega.{arith}
 use lib.Dec.{T, eqb}
 use lib.IntN.{ℤ, pos, natAbs, _+ℤ_}
+use lib.ListN.{getD}
 use lib.Signed.{nonNeg}
 use borrow.Author.Tests.{ne-eqb}
 use mir.Syntax.{w64}
@@ -14,8 +15,8 @@ use Rattle.numbers.proofs.Between.{natural-within, inside-pos}
 use Rattle.numbers.proofs.Bools.{no-both}
 use Rattle.numbers.proofs.Machine.{cast-pos}
 use Rattle.calendar.specs.Gregorian.{monthLength}
-use Rattle.calendar.specs.Closed.{baseYear, leapDay, monthDays}
-use Rattle.calendar.proofs.Months.{each-month, length-public, with-leap-day}
+use Rattle.calendar.specs.Closed.{baseYear, leapDay, monthDays, commonLengths}
+use Rattle.calendar.proofs.Months.{length-le, length-public, with-leap-day}
 
 -- an accepted month as an unsigned number
 module _ (month : ℤ) (h : outside (pos 1) (pos 12) month ≡ false) where
@@ -31,6 +32,11 @@ module _ (year month : ℤ) (y : ℕ) (h : outside (pos 1) (pos 12) month ≡ fa
   accepted-length =
       let n = natural-within 1 (pos 12) month h in
       (λ i. monthLength (sym e i) (n .is i)) ∙ length-public y (natAbs month) (n .low) (n .high)
+
+-- the length that the match has
+pub common-length : (m : ℕ) → 1 ≤ m → m ≤ 12 → (getD commonLengths m 0 ≡ monthDays 0 m) × (monthDays 0 m ≤ 31)
+unfolding monthDays
+common-length m lo hi = (refl, length-le 0 m (omega arith) lo hi)
 
 -- whether a month of a year with l leap days has the day
 abbrev pub hasDay : (l m : ℕ) (day : ℤ) → Bool

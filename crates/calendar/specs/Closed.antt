@@ -3,7 +3,7 @@
 -- calendar of source document 000, section 6, whose years begin in March, needs no number below zero.
 use Prim.Native.Nat.{ℕ, zero, suc, _+_, _-_, _*_, _/_, _%_, _≤_}
 use mathlib.Core.Bool.{Bool, cond, not, _&&_}
-use mathlib.Core.List.{[], _∷_}
+use mathlib.Core.List.{List, [], _∷_}
 use lib.Dec.{eqb, leb}
 use lib.IntN.{ℤ, pos, _+ℤ_, _-ℤ_}
 use lib.ListN.{getD}
@@ -61,6 +61,10 @@ start y = 365 * y + leaps y
 -- the length of month m in a year with l leap days
 unfoldable pub monthDays : (l m : ℕ) → ℕ
 monthDays l m = getD (0 ∷ 31 ∷ (28 + l) ∷ 31 ∷ 30 ∷ 31 ∷ 30 ∷ 31 ∷ 31 ∷ 30 ∷ 31 ∷ 30 ∷ 31 ∷ []) m 0
+
+-- the lengths in a common year, at the places of the months
+abbrev pub commonLengths : List ℕ
+commonLengths = 0 ∷ 31 ∷ 28 ∷ 31 ∷ 30 ∷ 31 ∷ 30 ∷ 31 ∷ 31 ∷ 30 ∷ 31 ∷ 30 ∷ 31 ∷ []
 
 -- the days before month m of a year with l leap days
 unfoldable pub before : (l m : ℕ) → ℕ

@@ -1,8 +1,8 @@
 use Rattle.calendar.proofs.Leap.{leap-le}
-use Rattle.calendar.proofs.DayTests.{hasDay, common-day, no-other-day, leap-february, no-february-day}
+use Rattle.calendar.proofs.DayTests.{common-length, hasDay, common-day, no-other-day, leap-february, no-february-day}
 use Rattle.calendar.specs.Closed.{leapDay, monthDays}
 use Rattle.numbers.specs.Range.{outside}
-use Rattle.numbers.proofs.Machine.{key-is}
+use Rattle.numbers.proofs.Machine.{key-is, pos-fits}
 use native.Mathlib.Omega.{arith}
 use lib.Dec.{eqb, lit<}
 use lib.IntN.{pos}
@@ -20,8 +20,9 @@ use Rattle.calendar.proofs.day_test.has_day.Tie as tie
 common : (c : tie.After-outside) {t : Bool} → c .outside .result ≡ t →
     let s = c .before .before in outside (pos 1) (pos (monthDays 0 (s .args .m))) (s .args .day) ≡ t
 common c h = let s = c .before .before in
-    let l = c .before .common-length .ensures .1 in
-    let p = toZ-pos w64 (omega arith) ∙ ap pos (c .before .common-length .ensures .0) in
+    let k = common-length (s .args .m) (s .pre .0) (s .pre .1) in
+    let e = c .before .common-length .ensures ∙ k .0 in
+    let p = toZ-pos w64 (omega (arith, e, k .1)) ∙ ap pos e in
     sym (c .outside .ensures ∙ (λ i. outside (pos 1) (p i) (toZ-ofZ (s .fits .day) i))) ∙ h
 
 returns : tie.Need-returns
@@ -56,7 +57,7 @@ has-day-spec =
     tie.close
     (tie.spec
     (λ c κs. search needs)
-    (λ c. search needs)
+    (λ c. let s = c .before in let k = common-length (s .args .m) (s .pre .0) (s .pre .1) in pos-fits (omega (arith, c .common-length .ensures, k .0, k .1)))
     (λ c κs. search needs)
     returns
     (λ c κs. search needs)
