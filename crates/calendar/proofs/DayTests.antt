@@ -9,7 +9,7 @@ use lib.ListN.{getD}
 use lib.Signed.{nonNeg}
 use borrow.Author.Tests.{ne-eqb}
 use mir.Syntax.{w64}
-use mir.Val.{Fits, boolByte}
+use mir.Val.{Fits}
 use Rattle.numbers.specs.Range.{outside}
 use Rattle.numbers.proofs.Between.{natural-within, inside-pos}
 use Rattle.numbers.proofs.Bools.{no-both}

@@ -1,5 +1,5 @@
 -- The claims of the calendar's multiply-and-shift constants, as the sheet has them: the checker accepts each.
-use Prim.Native.Nat.{ℕ, _+_, _-_, _*_, _^_, _≤_, _<_}
+use Prim.Native.Nat.{ℕ, _+_, _-_, _*_, _≤_, _<_}
 use mathlib.Core.Path.{_≡_, refl}
 use native.Mathlib.Omega.{arith}
 use Rattle.constants.specs.Limits.{outsideLimits}

@@ -1,9 +1,9 @@
 -- A claim with tolerance 0: how it is shown accepted for numbers that are written out, and what it then says. Whoever divides by a
 -- multiplication and a shift shows its claim by `accepts` and uses it by `by-shift`.
 use Prim.Native.Nat.{ℕ, _+_, _*_, _/_, _%_, _^_, _≤_, _<_}
-use mathlib.Core.Path.{_≡_, refl, sym, ap, _∙_, subst}
-use mathlib.Core.Bool.{Bool, true, false, _||_}
-use native.Mathlib.Nat.{div-eq-of-lt-le, div-add-mod, mod-lt, mul-comm}
+use mathlib.Core.Path.{_≡_, sym, subst}
+use mathlib.Core.Bool.{true, false, _||_}
+use native.Mathlib.Nat.{div-eq-of-lt-le, div-add-mod, mod-lt}
 use native.Mathlib.Decide.{decLt}
 use native.Mathlib.Omega.{arith}
 use lib.IntN.{pos}

@@ -1,5 +1,5 @@
 -- The claim of the month's multiply-and-shift constant, as the sheet has it: the checker accepts it.
-use Prim.Native.Nat.{ℕ, _+_, _-_, _*_, _^_, _≤_, _<_}
+use Prim.Native.Nat.{ℕ, _+_, _-_, _*_, _≤_, _<_}
 use mathlib.Core.Path.{_≡_, refl}
 use native.Mathlib.Omega.{arith}
 use Rattle.constants.specs.Limits.{outsideLimits}

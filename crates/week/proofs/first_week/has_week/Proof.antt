@@ -1,5 +1,5 @@
 -- Week 53 is compared with the next year; any other week is in 1..52 exactly if it is in 1..53.
-use Prim.Native.Nat.{ℕ, _+_, _*_, _<_}
+use Prim.Native.Nat.{ℕ, _+_, _<_}
 use mathlib.Core.Path.{_≡_, refl, sym, ap, ap₂, _∙_}
 use mathlib.Core.Bool.{not, _||_}
 use native.Mathlib.Decide.{decLt}
