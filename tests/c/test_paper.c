@@ -826,5 +826,5 @@ int main(void)
     check_museum_instants();
     check_read_sheets();
     check_written_sheets();
-    return finish("the numbers of document 01 and of change requests One and Three to Nine");
+    return finish("the numbers of document 01 and of change requests One and Three to Ten");
 }
