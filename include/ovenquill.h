@@ -13,7 +13,8 @@
  * calls no function outside the archive, leaves errno alone and needs less than 1 KiB of stack: it may be made from any thread
  * and from a signal handler. One call is different: ovenquill_civil_from_days_audit calls memset, and no other function outside
  * the archive, and needs less than 2 KiB of stack beside what memset needs. It too may be made from any thread and, as POSIX
- * allows of memset, from a signal handler. A program that is linked without C's library must have a memset of its own.
+ * allows of memset, from a signal handler. A program that is linked without C's library needs a memset of its own, also where it
+ * does not make this call, unless the linker leaves out what is not called.
  *
  * Every call returns 0 or more where it is done, and below 0 where it is refused: the refusal's number negated, which has a
  * macro below. The refusals of a call are listed in the order in which they are looked for; the first whose cause holds is
@@ -339,7 +340,7 @@ int64_t ovenquill_days_from_civil(int64_t year, int64_t month, int64_t day, int6
 int64_t ovenquill_civil_from_days(int64_t days, ovenquill_date *date);
 
 /*
- * The date of a day count by ordinary divisions: algorithm 3 of Neri and Schneider's paper on Euclidean affine functions in
+ * The date of a day count by ordinary divisions, after algorithm 3 of Neri and Schneider's paper on Euclidean affine functions in
  * calendars. Writes it to `date` and answers 0. It is there to compare ovenquill_civil_from_days with, and a program of one's own.
  *
  * Refusal, after which `date` is unchanged:
