@@ -15,6 +15,8 @@ import sys
 LIMIT, AUDIT_LIMIT = 1024, 2048
 AUDIT, AUDIT_OUTSIDE = "ovenquill_civil_from_days_audit", {"memset"}
 WORD = 8
+# so many bytes below the stack pointer a function may use that takes none off it, by the rules for x86-64 with ELF
+BELOW_POINTER = 128
 
 FUNCTION = re.compile(r"^[0-9a-f]+ <(.+)>:$")
 TARGET = re.compile(r"R_X86_64_(?:PLT32|PC32)\s+(?:\.text\.)?([^\s+-]+)")
@@ -58,7 +60,7 @@ def depth(functions, name, above=()):
         return WORD, {name}
     own, further = functions[name]
     below = [depth(functions, callee, (*above, name)) for callee in further]
-    return own + max((deepest for deepest, _ in below), default=0), set().union(*(outside for _, outside in below))
+    return own + max([BELOW_POINTER, *(deepest for deepest, _ in below)]), set().union(*(outside for _, outside in below))
 
 
 def check(functions, name):
