@@ -16,7 +16,7 @@ VERSION := $(subst $() ,.,$(strip $(shell sed -n 's/^.define OVENQUILL_VERSION_[
 
 .PHONY: all demo test bench install clean
 .PHONY: test-dates test-edits test-declarations test-c test-labels test-weeks test-sheets test-stack test-examples test-install
-.PHONY: test-rust test-readme
+.PHONY: test-constants test-rust test-readme
 
 all: $(LIB) $(CHECK_SHEET) $(EXAMPLES)
 
@@ -40,7 +40,7 @@ demo: $(EXAMPLES) $(CHECK_SHEET)
 	printf '%s\n' '1 0 10 26 0 8 0 69' '1 0 10 26 0 8 0 100' | build/write_sheet | $(CHECK_SHEET)
 
 test: test-dates test-edits test-declarations test-c test-labels test-weeks test-sheets test-stack test-examples test-install
-test: test-rust test-readme
+test: test-constants test-rust test-readme
 
 # The programs that print what the archive answers, for a test to compare.
 build/tests/%: tests/c/%.c include/ovenquill.h $(LIB)
@@ -56,11 +56,12 @@ test-dates: build/tests/all_dates
 
 # Every must-fail edit still fits the files that it changes, and the tool that says so sees a fault. Whether the edits are refused is
 # for `rt must-fail` to say, and whether each function that they change is, for `tools/check_edits --refused`. The benchmarks' own
-# edit fits too.
+# edit fits too. The two files of the table of days are what their script writes.
 test-edits:
 	tools/check_edits
 	tests/test_check_edits.py
 	tools/build_lengths --fits
+	tools/make_day_table --check
 
 # The exports, the header and the Rust package declare the same calls; and the tool that says so sees a fault.
 test-declarations:
@@ -81,6 +82,16 @@ test-weeks: build/tests/all_weeks
 # The archive's calls on sheets, and the program, against a reader, a writer and a checker in Python.
 test-sheets: build/tests/answer_sheets $(CHECK_SHEET)
 	tests/test_sheets.py build/tests/answer_sheets $(CHECK_SHEET)
+
+# Claims by trying every n, without the archive.
+build/tests/scan_claims: tests/c/scan_claims.c tests/c/plain_constants.c tests/c/plain.h
+	mkdir -p build/tests
+	$(CC) $(CFLAGS) -std=c99 tests/c/scan_claims.c tests/c/plain_constants.c -o $@
+
+# The sheet of the library's own constants against the claims that are proved, check_sheet, a scan and the code; and the test sees a
+# fault in each.
+test-constants: build/write_sheet $(CHECK_SHEET) build/tests/scan_claims
+	tests/test_constants.py build/write_sheet $(CHECK_SHEET) build/tests/scan_claims
 
 test-stack: $(LIB)
 	tests/test_stack.py $(LIB)

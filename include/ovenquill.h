@@ -11,7 +11,10 @@
  *
  * Any numbers and any bytes may be handed in. A call allocates nothing, keeps no state (a transport clock is the caller's),
  * calls no function outside the archive, leaves errno alone and needs less than 1 KiB of stack: it may be made from any thread
- * and from a signal handler.
+ * and from a signal handler. One call is different: ovenquill_civil_from_days_audit calls memset, and no other function outside
+ * the archive, and needs less than 2 KiB of stack beside what memset needs. It too may be made from any thread and, as POSIX
+ * allows of memset, from a signal handler. A program that is linked without C's library needs a memset of its own, also where it
+ * does not make this call, unless the linker leaves out what is not called.
  *
  * Every call returns 0 or more where it is done, and below 0 where it is refused: the refusal's number negated, which has a
  * macro below. The refusals of a call are listed in the order in which they are looked for; the first whose cause holds is
@@ -39,7 +42,7 @@ extern "C" {
 
 /* The version of this header, in numbers and as a string. */
 #define OVENQUILL_VERSION_MAJOR 0
-#define OVENQUILL_VERSION_MINOR 9
+#define OVENQUILL_VERSION_MINOR 10
 #define OVENQUILL_VERSION_PATCH 0
 #define OVENQUILL_VERSION OVENQUILL_DOTTED_(OVENQUILL_VERSION_MAJOR, OVENQUILL_VERSION_MINOR, OVENQUILL_VERSION_PATCH)
 #define OVENQUILL_DOTTED_(major, minor, patch) OVENQUILL_STRING_(major.minor.patch)
@@ -328,10 +331,35 @@ int64_t ovenquill_days_from_civil(int64_t year, int64_t month, int64_t day, int6
 /*
  * The date of a day count. Writes it to `date` and answers 0.
  *
+ * There are three ways to it, with the same answers, dates and refusals for every int64_t. This is the one to use: it goes by
+ * products, shifts and a table of the days of a year, and is the fastest. The other two follow.
+ *
  * Refusal, after which `date` is unchanged:
  *   OVENQUILL_OUT_OF_RANGE   days outside OVENQUILL_FIRST_COUNT to OVENQUILL_LAST_COUNT
  */
 int64_t ovenquill_civil_from_days(int64_t days, ovenquill_date *date);
+
+/*
+ * The date of a day count by ordinary divisions, after algorithm 3 of Neri and Schneider's paper on Euclidean affine functions in
+ * calendars. Writes it to `date` and answers 0. It is there to compare ovenquill_civil_from_days with, and a program of one's own.
+ *
+ * Refusal, after which `date` is unchanged:
+ *   OVENQUILL_OUT_OF_RANGE   days outside OVENQUILL_FIRST_COUNT to OVENQUILL_LAST_COUNT
+ */
+int64_t ovenquill_civil_from_days_plain(int64_t days, ovenquill_date *date);
+
+/*
+ * The date of a day count for audits at a desk. Writes it to `date` and answers 0. It goes by a table of the days on which the
+ * 400 years of a cycle of the calendar and the year after them begin, in which the year is searched for. Each call fills the
+ * table anew from the leap rule. So it is slow, some 0.6 microseconds a call where it was measured, and but for the test of the
+ * range and for where days and years are counted from it has nothing in common with ovenquill_civil_from_days, which it can check.
+ *
+ * The table is on the stack, 1604 bytes, and memset clears it: see above for what that asks of a caller.
+ *
+ * Refusal, after which `date` is unchanged:
+ *   OVENQUILL_OUT_OF_RANGE   days outside OVENQUILL_FIRST_COUNT to OVENQUILL_LAST_COUNT
+ */
+int64_t ovenquill_civil_from_days_audit(int64_t days, ovenquill_date *date);
 
 /*
  * The weekday of a day count. Answers it, OVENQUILL_MONDAY to OVENQUILL_SUNDAY, and never 0.

@@ -4,7 +4,8 @@
  * snprintf, the readers of instants and week dates go byte by byte, those of timestamps and cue lines take one part after the
  * other, the constants go by trying every n, a sheet by trying every number of records, and a step of the transport clock by trying
  * three. Each call here has the answer, and leaves in what it is lent the bytes, that the library's call of the same name must have
- * and leave: a date and a week date are three numbers, fields are seven, a cue and a clock are two, a record is eight.
+ * and leave: a date and a week date are three numbers, fields are seven, a cue and a clock are two, a record is eight. The three
+ * ways to the date of a count that the library has since change request Ten have one call here.
  */
 #ifndef PLAIN_H
 #define PLAIN_H

@@ -23,6 +23,8 @@ static void try_count(int64_t days)
 {
     same("ovenquill_weekday", days, ovenquill_weekday(days), plain_weekday(days));
     SAME_WITH_PLACE(ovenquill_date, days, ovenquill_civil_from_days(days, lent), plain_civil_from_days(days, right));
+    SAME_WITH_PLACE(ovenquill_date, days, ovenquill_civil_from_days_plain(days, lent), plain_civil_from_days(days, right));
+    SAME_WITH_PLACE(ovenquill_date, days, ovenquill_civil_from_days_audit(days, lent), plain_civil_from_days(days, right));
     SAME_WITH_PLACE(ovenquill_week_date, days, ovenquill_week_from_days(days, lent), plain_week_from_days(days, right));
 }
 
@@ -769,6 +771,10 @@ static void check_unset_places(void)
     REFUSED_WITH_UNSET(int64_t, ovenquill_days_from_civil(2023, 2, 29, lent), plain_days_from_civil(2023, 2, 29, right));
     DONE_WITH_UNSET(ovenquill_date, ovenquill_civil_from_days(-1, lent), plain_civil_from_days(-1, right));
     REFUSED_WITH_UNSET(ovenquill_date, ovenquill_civil_from_days(INT64_MAX, lent), plain_civil_from_days(INT64_MAX, right));
+    DONE_WITH_UNSET(ovenquill_date, ovenquill_civil_from_days_plain(-1, lent), plain_civil_from_days(-1, right));
+    REFUSED_WITH_UNSET(ovenquill_date, ovenquill_civil_from_days_plain(INT64_MAX, lent), plain_civil_from_days(INT64_MAX, right));
+    DONE_WITH_UNSET(ovenquill_date, ovenquill_civil_from_days_audit(-1, lent), plain_civil_from_days(-1, right));
+    REFUSED_WITH_UNSET(ovenquill_date, ovenquill_civil_from_days_audit(INT64_MAX, lent), plain_civil_from_days(INT64_MAX, right));
     DONE_WITH_UNSET(ovenquill_date, ovenquill_add_days(2023, 5, 10, 30, lent), plain_add_days(2023, 5, 10, 30, right));
     REFUSED_WITH_UNSET(ovenquill_date, ovenquill_add_days(2023, 2, 29, 30, lent), plain_add_days(2023, 2, 29, 30, right));
     REFUSED_WITH_UNSET(ovenquill_date, ovenquill_add_days(2023, 2, 1, INT64_MAX, lent),

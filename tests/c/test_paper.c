@@ -1,7 +1,8 @@
 /*
  * Document 01's rows, "Numbers to try", and the words of change request One on reading positions, of Three on small letters,
  * of Four on weekdays, with a week of dates by the names and the numbers of their days, of Five on the transport clock, of Six on
- * the order of an index, of Seven on week dates, of Eight on the range of years, and of Nine on sheets. Compiled as C and as C++.
+ * the order of an index, of Seven on week dates, of Eight on the range of years, of Nine on sheets, and of Ten on three ways from a
+ * count to a date. Compiled as C and as C++.
  */
 #include <string.h>
 
@@ -9,16 +10,26 @@
 #include "ovenquill.h"
 #include "texts.h"
 
+/* The three ways to the date of a count. */
+static int64_t (*const ways[])(int64_t days, ovenquill_date *date) = {
+    ovenquill_civil_from_days,
+    ovenquill_civil_from_days_plain,
+    ovenquill_civil_from_days_audit,
+};
+
 static void check_date(int64_t count, int64_t year, int64_t month, int64_t day)
 {
     int64_t days = 0;
-    ovenquill_date date = {0, 0, 0};
+    size_t i;
     same("days of a date", count, ovenquill_days_from_civil(year, month, day, &days), 0);
     same("days of a date", count, days, count);
-    same("date of a count", count, ovenquill_civil_from_days(count, &date), 0);
-    same("year of a count", count, date.year, year);
-    same("month of a count", count, date.month, month);
-    same("day of a count", count, date.day, day);
+    for (i = 0; i < COUNT(ways); i++) {
+        ovenquill_date date = {0, 0, 0};
+        same("date of a count", count, ways[i](count, &date), 0);
+        same("year of a count", count, date.year, year);
+        same("month of a count", count, date.month, month);
+        same("day of a count", count, date.day, day);
+    }
 }
 
 static void check_weekday(int64_t year, int64_t month, int64_t day, int64_t weekday)
@@ -534,7 +545,9 @@ static void check_refused_count(int64_t count)
 {
     ovenquill_date date = {7, 7, 7};
     ovenquill_week_date week = {7, 7, 7};
-    same("the date of a refused count", count, ovenquill_civil_from_days(count, &date), OVENQUILL_OUT_OF_RANGE);
+    size_t i;
+    for (i = 0; i < COUNT(ways); i++)
+        same("the date of a refused count", count, ways[i](count, &date), OVENQUILL_OUT_OF_RANGE);
     same("the weekday of a refused count", count, ovenquill_weekday(count), OVENQUILL_OUT_OF_RANGE);
     same("the week date of a refused count", count, ovenquill_week_from_days(count, &week), OVENQUILL_OUT_OF_RANGE);
     same("a refused shift from day 0", count, ovenquill_add_days(1970, 1, 1, count, &date), OVENQUILL_OUT_OF_RANGE);
@@ -813,5 +826,5 @@ int main(void)
     check_museum_instants();
     check_read_sheets();
     check_written_sheets();
-    return finish("the numbers of document 01 and of change requests One and Three to Nine");
+    return finish("the numbers of document 01 and of change requests One and Three to Ten");
 }

@@ -1,0 +1,191 @@
+#!/usr/bin/env python3
+"""Holds constants.sheet, the sheet of the library's own multiply-and-shift constants, to the claims that are proved, to check_sheet
+and to the code that has the constants.
+
+    test_constants.py WRITE_SHEET CHECK_SHEET SCAN_CLAIMS
+
+The arguments are the example write_sheet, which writes the sheet anew from what tools/list_constants lists, check_sheet, and the
+program of tests/c/scan_claims.c, which tries every n up to the bound of a claim. The first n are tried here once more, and so are
+the bound and the largest input of the code. Then each comparison is made with one fault, which it must find.
+"""
+import re
+import shutil
+import subprocess
+import sys
+import tempfile
+from pathlib import Path
+
+REPOSITORY = Path(__file__).resolve().parent.parent
+CRATES = REPOSITORY / "crates"
+LIST_CONSTANTS = REPOSITORY / "tools" / "list_constants"
+NOTE = "Constants of the calendar and of the labels"
+MULTIPLIER, BOUND = 3, 7
+
+# every n below it is tried here
+SCANNED = 300000
+
+# The largest input that the code has for the claim at each place.
+LARGEST = [
+    365,  # the last day of a year from March
+    23521556,  # the last day of the range, from 1 March of the year -32400
+    23522039,  # the same as if every fourth year were leap
+    23522040,  # the same, counted from 1
+    2**27 - 1,  # what the weekday of a day allows
+    64399,  # the last year of the range, from the year -32400
+    9999,  # four digits
+    99,  # two digits
+]
+
+# The file of the crates, a text of it, what is put in its place, and a word that list_constants --code must say.
+PRODUCTS, DIGITS = "calendar/src/products.rt", "labels/src/digits.rt"
+FAULTS_OF_CODE = [
+    ("a place for another", PRODUCTS, "shift by 24: place 5", "shift by 24: place 6", "place 6 has the multiplier 5243"),
+    ("a place that is left out", PRODUCTS, "shift by 24: place 5", "shift by 24: place 6", "no file names place 5"),
+    ("a place for another, and a 0", PRODUCTS, "by 24: place 5", "by 24, from 0: place 6", "place 6 has the multiplier 5243"),
+    ("a place that is not there", DIGITS, "(place 7", "(place 8", "there is no place 8"),
+    ("no place", "day_table/src/lib.rt", ": place 0 of", ", of", "no file names place 0"),
+    ("another multiplier", PRODUCTS, "= 120414423;", "= 120414424;", "place 1 has the multiplier 120414423"),
+    ("another number that is added", PRODUCTS, "= 1393439081;", "= 1393439082;", "place 3 has the multiplier 23517959"),
+]
+
+# The same in files that have claims: what is listed must then make another sheet. A word is None where the code is still right.
+ORDER, CALENDAR, LABELS = "../crates.txt", "calendar/proofs/Records.antt", "labels/proofs/Records.antt"
+THIRD = "pub third : Accepted 1 0 3 171 0 9 128\n\n"
+FIRST_CRATE, SECOND_CRATE = "day_table: refusal numbers constants\n", "calendar: refusal numbers constants day_table\n"
+FAULTS_OF_CLAIMS = [
+    ("a claim that no code names", LABELS, "-- what follows", THIRD + "-- what follows", "no file names place 8"),
+    ("such a claim before the last", LABELS, "pub tenth :", THIRD + "pub tenth :", "place 7 has the multiplier 171"),
+    ("a claim that is not listed", LABELS, "pub tenth :", "tenth :", "there is no place 7"),
+    ("a bound that is one more", CALENDAR, "Accepted 1 0 100 167773 0 24 199799", "Accepted 1 0 100 167773 0 24 199800", None),
+    ("crates in another order", ORDER, FIRST_CRATE + SECOND_CRATE, SECOND_CRATE + FIRST_CRATE, "place 0 has the multiplier"),
+]
+
+
+def expect(holds, words):
+    if not holds:
+        sys.exit(f"FAILED: {words}")
+
+
+def run(command, given=b""):
+    """The exit status of a command and what it prints."""
+    done = subprocess.run(command, input=given, stdout=subprocess.PIPE)
+    return done.returncode, done.stdout
+
+
+def printed(command, given=b""):
+    """What a command prints that must do what it is for."""
+    status, output = run(command, given)
+    expect(status == 0, f"status {status} of {command}")
+    return output
+
+
+def claims_of(crates):
+    return [[int(word) for word in line.split()] for line in printed([LIST_CONSTANTS, crates]).decode().splitlines()]
+
+
+def proved_claims():
+    """The claims, in order of their numbers, by the law that shows each: `accepts a b d m c k bound`, wherever it is cited."""
+    texts = (file.read_text() for file in CRATES.glob("*/proofs/**/*.antt"))
+    found = (map(int, numbers.split()) for text in texts for numbers in re.findall(r"\baccepts((?: \d+){7})\b", text))
+    return sorted([a, b, d, m, c, k, 0, bound] for a, b, d, m, c, k, bound in found)
+
+
+def lines_of(claims):
+    return "".join(" ".join(map(str, claim)) + "\n" for claim in claims).encode()
+
+
+def differs(n, a, b, d, m, c, k, t):
+    return abs((m * n + c >> k) - (a * n + b) // d) > t
+
+
+def check_scanned(place, claim):
+    """Tries the first n of a claim, its bound and the largest input of the code."""
+    *constants, bound = claim
+    for n in range(min(bound, SCANNED)):
+        expect(not differs(n, *constants), f"the claim at place {place} has a difference at {n}")
+    expect(differs(bound, *constants), f"the claim at place {place} has no difference at its bound")
+    expect(not differs(LARGEST[place], *constants), f"the claim at place {place} has a difference at the code's largest input")
+    expect(LARGEST[place] < bound, f"the code's largest input is not below the bound at place {place}")
+
+
+def changed(claims, place, number, by):
+    """The claims with one number of one of them changed."""
+    return [[n + by * (at == place and i == number) for i, n in enumerate(claim)] for at, claim in enumerate(claims)]
+
+
+class Programs:
+    def __init__(self, write_sheet, check_sheet, scan_claims):
+        self.write_sheet, self.check_sheet, self.scan_claims = write_sheet, check_sheet, scan_claims
+
+    def sheet_of(self, claims):
+        return printed([self.write_sheet, NOTE], lines_of(claims))
+
+    def verdicts(self, sheet):
+        return printed([self.check_sheet], sheet).decode().splitlines()
+
+    def scanned(self, claims):
+        return printed([self.scan_claims], lines_of(claims)).decode().splitlines()
+
+
+def check_changed(programs, claims):
+    """Each claim with a bound one less, one more and a multiplier one more: it alone is not accepted."""
+    for place, claim in enumerate(claims):
+        right = [f"{at} accepted" for at in range(len(claims))]
+        right[place] = f"{place} 11"
+        lower = programs.verdicts(programs.sheet_of(changed(claims, place, BOUND, -1)))
+        expect(lower == right, f"a bound one less at place {place}: {lower}")
+        right[place] = f"{place} 10 {claim[BOUND]}"
+        higher = programs.verdicts(programs.sheet_of(changed(claims, place, BOUND, 1)))
+        expect(higher == right, f"a bound one more at place {place}: {higher}")
+        other = changed(claims, place, MULTIPLIER, 1)
+        [scanned] = programs.scanned([other[place]])
+        right[place] = f"{place} {scanned.removeprefix('0 ')}"
+        expect(right[place].startswith(f"{place} 10 "), f"a multiplier one more at place {place}: {right[place]}")
+        more = programs.verdicts(programs.sheet_of(other))
+        expect(more == right, f"a multiplier one more at place {place}: {more}")
+
+
+def check_removed(programs, claims, sheet):
+    """The sheet without one of its records is not the one that is written anew."""
+    for place in range(len(claims)):
+        expect(programs.sheet_of(claims[:place] + claims[place + 1:]) != sheet, f"the sheet does not need place {place}")
+
+
+def check_copies(programs, sheet):
+    """The crates with one fault."""
+    for faults, of_claims in ((FAULTS_OF_CODE, False), (FAULTS_OF_CLAIMS, True)):
+        for what, name, old, new, word in faults:
+            with tempfile.TemporaryDirectory() as folder:
+                crates = Path(folder) / "crates"
+                shutil.copytree(CRATES, crates)
+                shutil.copy(REPOSITORY / "crates.txt", folder)
+                text = (crates / name).read_text()
+                expect(text.count(old) == 1, f"{what} cannot be put into {name}")
+                (crates / name).write_text(text.replace(old, new))
+                status, said = run([LIST_CONSTANTS, "--code", crates])
+                found = status == 1 and word.encode() in said if word else status == 0 and not said
+                expect(found, f"{what}: status {status}, said\n{said.decode()}")
+                expect((programs.sheet_of(claims_of(crates)) == sheet) != of_claims, f"{what}: the sheet that is listed")
+
+
+def main(*arguments):
+    programs = Programs(*arguments)
+    claims, sheet = claims_of(CRATES), (REPOSITORY / "constants.sheet").read_bytes()
+    expect(len(claims) == len(LARGEST), f"there are {len(claims)} claims, and {len(LARGEST)} largest inputs")
+    proved = proved_claims()
+    expect(sorted(claims) == proved, f"what is listed is not what is proved: {proved}")
+    expect(programs.sheet_of(claims) == sheet, "constants.sheet is not what the claims make")
+    accepted = [f"{place} accepted" for place in range(len(claims))]
+    expect(programs.verdicts(sheet) == accepted, "check_sheet does not accept each claim")
+    expect(programs.scanned(claims) == accepted, "a claim is not so when every n is tried")
+    for place, claim in enumerate(claims):
+        check_scanned(place, claim)
+    status, said = run([LIST_CONSTANTS, "--code", CRATES])
+    expect(status == 0 and not said, f"the code: {said.decode()}")
+    check_changed(programs, claims)
+    check_removed(programs, claims, sheet)
+    check_copies(programs, sheet)
+    print(f"constants: {len(claims)} claims ok, {4 * len(claims) + len(FAULTS_OF_CODE) + len(FAULTS_OF_CLAIMS)} faults tried")
+
+
+main(*sys.argv[1:])
