@@ -1,8 +1,8 @@
 /*
- * Change request Ten: the three ways from a day count to a date, held to one another and to plain.h, for every count of the range;
- * and refused counts, the first and the last hundred beyond the range, those at the ends of int64_t, and those whose lowest 32 bits
- * are those of a count of the range. An argument n is the step: only every n-th count of the range is asked about. Compiled as C
- * and as C++.
+ * Change request Ten: the three ways from a day count to a date, and the shift of day 0, held to one another and to plain.h, for
+ * every count of the range; and refused counts, the first and the last hundred beyond the range, those at the ends of int64_t, and
+ * those whose lowest 32 bits are those of a count of the range. An argument n is the step: only every n-th count of the range is
+ * asked about. Compiled as C and as C++.
  */
 #include "lent.h"
 #include "ovenquill.h"
@@ -14,8 +14,15 @@ struct way {
     int64_t (*date_of)(int64_t days, ovenquill_date *date);
 };
 
+/* Day 0, shifted: the way by products alone, which shifts and splits go. */
+static int64_t shifted(int64_t days, ovenquill_date *date)
+{
+    return ovenquill_add_days(1970, 1, 1, days, date);
+}
+
 static const struct way ways[] = {
     {"by products and a table of days", ovenquill_civil_from_days},
+    {"by products alone", shifted},
     {"by divisions", ovenquill_civil_from_days_plain},
     {"by a table of years", ovenquill_civil_from_days_audit},
 };
@@ -48,6 +55,7 @@ static void check_refused(int64_t days)
 {
     same("a refused count is outside", days, outside(PAPER_FIRST_COUNT, PAPER_LAST_COUNT, days), 1);
     SAME_WITH_PLACE(ovenquill_date, days, ovenquill_civil_from_days(days, lent), OVENQUILL_OUT_OF_RANGE);
+    SAME_WITH_PLACE(ovenquill_date, days, shifted(days, lent), OVENQUILL_OUT_OF_RANGE);
     SAME_WITH_PLACE(ovenquill_date, days, ovenquill_civil_from_days_plain(days, lent), OVENQUILL_OUT_OF_RANGE);
     SAME_WITH_PLACE(ovenquill_date, days, ovenquill_civil_from_days_audit(days, lent), OVENQUILL_OUT_OF_RANGE);
 }
