@@ -39,7 +39,8 @@ pub fn regular(n: u64) -> u64
     d - c / 4 + c
 }
 
-// The day of the year of a regular day, from 0: what is left of the product is its part of a year, which has 1461 quarters of a day.
+// The day of the year of a regular day, from 0: what is left of the year's product is a part of a year, which has 1461 quarters of a
+// day. It follows from the record of the year (`day-product`).
 pub fn day_of_year(d: u64) -> u64
     requires { ⌜ (1 ≤ d) × (d ≤ daysEnd) ⌝ }
     ensures { λ r. ⌜ r ≡ (4 * d - 1) % 1461 / 4 ⌝ }

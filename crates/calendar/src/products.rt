@@ -1,5 +1,5 @@
 // Multipliers of quotients that are made by a product and a shift. Each has a claim in the sheet of constants, which the checker
-// accepts; beside a multiplier stands the place of its record, whose last number is the input from which on the quotient is wrong.
+// accepts. Beside a multiplier stands the place of its record, whose last number is the least input at which the quotient is wrong.
 
 // The century of a day that is counted from 1, with a shift by 42: place 1. A day is 4 of the 146097 days of four centuries.
 pub const CENTURY: u64 = 120414423;
