@@ -3,7 +3,7 @@
 //! Ours are the shipped C calls. The rivals are plain Rust (benches/rivals) and, where OVENQUILL_CHRONO is set, libstdc++'s
 //! chrono (benches/chrono.cpp), with the same signatures, answers and refusals. Where OVENQUILL_LENGTHS is set, a table of
 //! its own compares the two ways to a month's length. `make bench` has every function of either side begin at a multiple of
-//! 64 bytes, which in the shipped archive it does not: ours come from a copy.
+//! 64 bytes, or of the 32 or 16 of its ALIGN, which in the shipped archive it does not: ours come from a copy.
 
 mod measure;
 #[path = "../tests/support/random.rs"]
