@@ -105,19 +105,29 @@ test-install: $(LIB) $(CHECK_SHEET)
 test-readme: $(LIB)
 	tests/test_readme.py
 
+# In the benchmarks every function of either side begins at a multiple of 64 bytes, so that none gains by where in 64 bytes it begins.
+# `make bench ALIGN=32` and `ALIGN=16` print the same tables with other multiples, from folders of their own; only the two ways to a
+# month's length stay as they are. Rust is told the power of two.
+ALIGN := 64
+POWER_64 := 6
+POWER_32 := 5
+POWER_16 := 4
+ALIGN_POWER = $(or $(POWER_$(ALIGN)),$(error ALIGN is 64, 32 or 16))
+ALIGN_FOLDER := $(if $(filter-out 64,$(ALIGN)),_$(ALIGN))
+
 # libstdc++'s calendar is one of the benchmarks' rivals where the C++ compiler has it; the tests compile the benchmarks too.
-build/chrono/libovenquill_chrono.a: rust/benches/chrono.cpp
-	mkdir -p build/chrono
-	$(CXX) -O3 -std=c++20 -falign-functions=64 -c $< -o build/chrono/chrono.o
-	ar rcs $@ build/chrono/chrono.o
+build/chrono$(ALIGN_FOLDER)/libovenquill_chrono.a: rust/benches/chrono.cpp
+	mkdir -p $(@D)
+	$(CXX) -O3 -std=c++20 -falign-functions=$(ALIGN) -c $< -o $(@D)/chrono.o
+	ar rcs $@ $(@D)/chrono.o
 
 # Whether it has, asked only where the rival is wanted.
 ifneq ($(filter test test-rust bench,$(MAKECMDGOALS)),)
 HAS_CHRONO := $(shell $(CXX) -std=c++20 -fsyntax-only rust/benches/chrono.cpp 2> /dev/null && echo yes)
 endif
 ifeq ($(HAS_CHRONO),yes)
-CHRONO := build/chrono/libovenquill_chrono.a
-bench test-rust: export OVENQUILL_CHRONO := $(CURDIR)/build/chrono
+CHRONO := build/chrono$(ALIGN_FOLDER)/libovenquill_chrono.a
+bench test-rust: export OVENQUILL_CHRONO := $(CURDIR)/build/chrono$(ALIGN_FOLDER)
 endif
 
 test-rust: $(LIB) $(CHRONO)
@@ -129,16 +139,16 @@ LENGTHS := build/lengths/libovenquill_lengths.a
 $(LENGTHS): $(LIB) tools/build_lengths | $(CHECK_SHEET)
 	tools/build_lengths $(LIB) $@
 
-# In the benchmarks every function begins at a multiple of 64 bytes, so that none gains by where in 64 bytes it begins.
-ALIGNED := build/aligned/libovenquill.a
+ALIGNED := build/aligned$(ALIGN_FOLDER)/libovenquill.a
 
 $(ALIGNED): $(LIB)
-	mkdir -p build/aligned
-	objcopy --set-section-alignment '.text*=64' $< $@
+	mkdir -p $(@D)
+	objcopy --set-section-alignment '.text*=$(ALIGN)' $< $@
 
 bench: $(ALIGNED) $(CHRONO) $(LENGTHS)
-	cd rust && OVENQUILL_LIB=../build/aligned OVENQUILL_LENGTHS=../build/lengths \
-	  RUSTFLAGS="$$RUSTFLAGS -C llvm-args=-align-all-functions=6" cargo bench --quiet --target-dir ../build/bench
+	cd rust && OVENQUILL_LIB=../build/aligned$(ALIGN_FOLDER) OVENQUILL_LENGTHS=../build/lengths \
+	  RUSTFLAGS="$$RUSTFLAGS -C llvm-args=-align-all-functions=$(ALIGN_POWER)" \
+	  cargo bench --quiet --target-dir ../build/bench$(ALIGN_FOLDER)
 
 # A relative PREFIX is one in this folder. One with a blank in it is kept, which $(abspath ..) would not do.
 INSTALLED := $(if $(PREFIX),$(if $(filter /%,$(firstword $(PREFIX))),,$(CURDIR)/))$(PREFIX)

@@ -3,7 +3,7 @@
 //! Ours are the shipped C calls. The rivals are plain Rust (benches/rivals) and, where OVENQUILL_CHRONO is set, libstdc++'s
 //! chrono (benches/chrono.cpp), with the same signatures, answers and refusals. Where OVENQUILL_LENGTHS is set, a table of
 //! its own compares the two ways to a month's length. `make bench` has every function of either side begin at a multiple of
-//! 64 bytes, which in the shipped archive it does not: ours come from a copy.
+//! 64 bytes, or of the 32 or 16 of its ALIGN, which in the shipped archive it does not: ours come from a copy.
 
 mod measure;
 #[path = "../tests/support/random.rs"]
@@ -13,10 +13,10 @@ mod rivals;
 
 use measure::call::{
     CueReader, Eight, EightTo, Follower, FourTo, GoingOn, Index, ListFollower, One, OneTo, PositionReader, Reader,
-    Reporter, SevenTo, SheetReader, SheetWriter, Text, Three, ThreeTo, Two, Waiting, WeekReader, Writer, MOST_BLANKS,
-    MOST_NOTE,
+    Reporter, SevenTo, SheetReader, SheetWriter, Text, Three, ThreeTo, Two, Waiting, WaitingTo, WeekReader, Writer,
+    MOST_BLANKS, MOST_NOTE,
 };
-use measure::{best_times, line, percentile, shown, Inputs, PARTS, ROUNDS};
+use measure::{best_times, line, line_alone, percentile, shown, Inputs, PARTS, ROUNDS};
 use ovenquill::sheet::{self, MAX_BYTES, MAX_RECORDS, RECORD_NUMBERS};
 use ovenquill::{
     raw, Constants, Date, Fields, WeekDate, CLAIM_BOUNDS, CLOCK_POSITIONS, CLOCK_VALUES, DAYS, INSTANTS,
@@ -35,6 +35,8 @@ use rivals::{calendar, constants, instants, labels, sheets, transport, weeks};
 
 /// The inputs of most lines.
 const INPUTS: usize = 131072;
+/// The inputs of the audit way, which takes longer.
+const AUDITS: usize = INPUTS / 64;
 /// The length of a long list.
 const MILLION: usize = 1_000_000;
 /// Every part of a line on a long list is the same list.
@@ -44,7 +46,9 @@ fn main() {
     println!("{ROUNDS} rounds, ours and the rival in turn on each part of the inputs.");
     println!("Ratio: ours / the rival's, each the sum over the parts of a part's median over the rounds.");
     println!("Rounds: the ratios of single rounds, in which a part counts at most twice its median.");
-    println!("Best: the sum over the parts of a part's least time, for one call.");
+    println!(
+        "Best: the sum over the parts of a part's least time, for one call; a line without a rival has only that."
+    );
     println!("The walk of the residues takes time linear in d, ours does not: its lines compare two algorithms.");
     heading();
     calendar_lines();
@@ -136,19 +140,36 @@ fn calendar_lines() {
     let years: Vec<[i64; 1]> = dates.iter().map(|&[year, ..]| [year]).collect();
     let months = months_of(&dates);
 
+    let ways_to_a_date: &[(&str, OneTo<Date>)] = &[
+        ("algorithm 3 in Rust, u32", calendar::civil_from_days_u32),
+        ("algorithm 3 in Rust, u64", calendar::civil_from_days_u64),
+        ("algorithm 5 in Rust, multiply and shift", calendar::civil_from_days_by_shifts),
+        #[cfg(chrono)]
+        (CHRONO, chrono::chrono_civil_from_days),
+    ];
     for (what, inputs) in [("days to date", &counts), ("days to date, 1 in 8 refused", &mixed_counts)] {
-        line::<OneTo<Date>>(
-            what,
-            &Inputs::of(inputs),
-            raw::ovenquill_civil_from_days,
-            &[
-                ("algorithm 3 in Rust", calendar::civil_from_days::<BY_DIVISIONS>),
-                ("algorithm 5 in Rust, multiply and shift", calendar::civil_from_days::<BY_SHIFTS>),
-                #[cfg(chrono)]
-                (CHRONO, chrono::chrono_civil_from_days),
-            ],
-        );
+        line::<OneTo<Date>>(what, &Inputs::of(inputs), raw::ovenquill_civil_from_days, ways_to_a_date);
     }
+    let waiting: Vec<(&str, WaitingTo<Date>)> =
+        ways_to_a_date.iter().map(|&(name, way)| (name, WaitingTo(way))).collect();
+    line(
+        "days to date, each call waiting for the one before",
+        &Inputs::of(&counts),
+        WaitingTo(raw::ovenquill_civil_from_days),
+        &waiting,
+    );
+    let by_divisions = &ways_to_a_date[..2];
+    line::<OneTo<Date>>(
+        "days to date, the plain way",
+        &Inputs::of(&counts),
+        raw::ovenquill_civil_from_days_plain,
+        by_divisions,
+    );
+    line_alone::<OneTo<Date>>(
+        "days to date, the audit way",
+        &Inputs::of(&counts[..AUDITS]),
+        raw::ovenquill_civil_from_days_audit,
+    );
     for (what, inputs) in [("date to days", &dates), ("date to days, 1 in 8 refused", &mixed_dates)] {
         line::<ThreeTo<i64>>(
             what,
@@ -253,6 +274,7 @@ fn week_lines() {
         &Inputs::of(&counts),
         raw::ovenquill_week_from_days,
         &[
+            (RUST, weeks::week_from_days_by_divisions),
             (BY_HAND, weeks::week_from_days),
             #[cfg(chrono)]
             (CHRONO, chrono::chrono_week_from_days),
@@ -263,6 +285,7 @@ fn week_lines() {
         &Inputs::of(&week_dates_of(&counts)),
         raw::ovenquill_days_from_week,
         &[
+            (RUST, weeks::days_from_week_by_divisions),
             (BY_HAND, weeks::days_from_week),
             #[cfg(chrono)]
             (CHRONO, chrono::chrono_days_from_week),

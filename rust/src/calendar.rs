@@ -95,6 +95,10 @@ pub fn days_from_civil(date: Date) -> Result<i64, Refusal> {
 ///
 /// Refused is a count outside [`DAYS`] ([`Refusal::OutOfRange`]).
 ///
+/// There are three ways to a date, which are proved to answer the same for every number. This one is the fastest and the one for a
+/// program: it multiplies and shifts, and has month and day from a table of the days of a year. [`civil_from_days_plain`] divides,
+/// and [`civil_from_days_audit`] looks a day up among the first days of the years.
+///
 /// ```
 /// use ovenquill::{civil_from_days, Date, Refusal};
 ///
@@ -107,6 +111,42 @@ pub fn days_from_civil(date: Date) -> Result<i64, Refusal> {
 pub fn civil_from_days(days: i64) -> Result<Date, Refusal> {
     // SAFETY: the place is ours to lend.
     placed(NO_DATE, |date| unsafe { raw::ovenquill_civil_from_days(days, date) })
+}
+
+/// The date of a count of days from 1970-01-01, by ordinary divisions.
+///
+/// Answers and refuses as [`civil_from_days`] does. It divides by 146097, 1461 and 153 as algorithm 3 of Neri and Schneider's paper
+/// on calendar algorithms does, so it is the one to compare with the paper. It takes about one and a half times as long.
+///
+/// ```
+/// use ovenquill::{civil_from_days_plain, Date, Refusal};
+///
+/// assert_eq!(civil_from_days_plain(11016), Ok(Date::new(2000, 2, 29)));
+/// assert_eq!(civil_from_days_plain(i64::MAX), Err(Refusal::OutOfRange));
+/// ```
+#[inline]
+pub fn civil_from_days_plain(days: i64) -> Result<Date, Refusal> {
+    // SAFETY: the call takes any number, and the place is ours to lend.
+    placed(NO_DATE, |date| unsafe { raw::ovenquill_civil_from_days_plain(days, date) })
+}
+
+/// The date of a count of days from 1970-01-01, for audits at a desk.
+///
+/// Answers and refuses as [`civil_from_days`] does. Each call fills a table of the days on which the 400 years of a cycle and the
+/// year after them begin, by the leap rule alone, and looks for the year and then for the month of the day, so it is the one to
+/// follow by hand and to hold other calendars to. It takes some 200 times as long as [`civil_from_days`], needs about 1.7 KB of
+/// stack and calls `memset`: a program that converts dates as it goes should take one of the other two.
+///
+/// ```
+/// use ovenquill::{civil_from_days_audit, Date, Refusal};
+///
+/// assert_eq!(civil_from_days_audit(11016), Ok(Date::new(2000, 2, 29)));
+/// assert_eq!(civil_from_days_audit(i64::MAX), Err(Refusal::OutOfRange));
+/// ```
+#[inline]
+pub fn civil_from_days_audit(days: i64) -> Result<Date, Refusal> {
+    // SAFETY: the call takes any number, and the place is ours to lend.
+    placed(NO_DATE, |date| unsafe { raw::ovenquill_civil_from_days_audit(days, date) })
 }
 
 /// The date that is so many days after a date, or before it where the number is negative.

@@ -8,7 +8,7 @@
 //!
 //! | subject | types | calls |
 //! |---|---|---|
-//! | days and dates | [`Date`], [`Weekday`] | [`days_from_civil`], [`civil_from_days`], [`weekday`], [`is_leap`], [`last_day_of_month`], [`day_of_year`], [`add_days`] |
+//! | days and dates | [`Date`], [`Weekday`] | [`days_from_civil`], [`civil_from_days`], [`civil_from_days_plain`], [`civil_from_days_audit`], [`weekday`], [`is_leap`], [`last_day_of_month`], [`day_of_year`], [`add_days`] |
 //! | week dates and their labels | [`WeekDate`], [`WeekLabel`] | [`week_from_days`], [`days_from_week`], [`week_label`], [`write_week`], [`read_week`] |
 //! | instants | [`Fields`], [`IndexError`] | [`day_of_instant`], [`split_instant`], [`join_instant`], [`index_days`] |
 //! | labels of instants | [`InstantLabel`] | [`instant_label`], [`write_instant`], [`read_instant`] |
@@ -21,6 +21,10 @@
 //! words; a refused call changes nothing that was lent to it. [`Clock::follow_all`] is never refused: it passes over the
 //! values that [`Clock::follow`] refuses, and counts them. A count of days is counted from 1970-01-01, an instant in
 //! milliseconds from 1970-01-01 00:00, both negative before. There are no time zones, no leap seconds and no locale.
+//!
+//! From a count to its date there are three ways with the same answers: [`civil_from_days`] is the fastest and the one for a program,
+//! [`civil_from_days_plain`] divides as the published algorithm does, and [`civil_from_days_audit`], for audits at a desk, counts
+//! from the leap rule.
 //!
 //! The calendar has the years of [`YEARS`], which are astronomical: year 0 is the one before year 1. Labels of instants and of week
 //! dates have those of [`LABEL_YEARS`] only; of an instant in another year [`split_instant`] gives the fields, and of a day
@@ -63,7 +67,8 @@ mod week;
 mod weekday;
 
 pub use calendar::{
-    add_days, civil_from_days, day_of_year, days_from_civil, is_leap, last_day_of_month, Date, DAYS, MONTHS, YEARS,
+    add_days, civil_from_days, civil_from_days_audit, civil_from_days_plain, day_of_year, days_from_civil, is_leap,
+    last_day_of_month, Date, DAYS, MONTHS, YEARS,
 };
 pub use constants::{check_bound, first_difference, ClaimError, Constants, CLAIM_BOUNDS, SEARCH_ENDS};
 pub use instant::{day_of_instant, index_days, join_instant, split_instant, Fields, IndexError, INSTANTS};

@@ -16,6 +16,8 @@ pub struct Clock {
 extern "C" {
     pub fn ovenquill_days_from_civil(year: i64, month: i64, day: i64, days: *mut i64) -> i64;
     pub fn ovenquill_civil_from_days(days: i64, date: *mut Date) -> i64;
+    pub fn ovenquill_civil_from_days_plain(days: i64, date: *mut Date) -> i64;
+    pub fn ovenquill_civil_from_days_audit(days: i64, date: *mut Date) -> i64;
     pub fn ovenquill_weekday(days: i64) -> i64;
     pub fn ovenquill_is_leap(year: i64) -> i64;
     pub fn ovenquill_last_day_of_month(year: i64, month: i64) -> i64;

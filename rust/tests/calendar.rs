@@ -1,22 +1,34 @@
 //! Days, dates and weekdays, every call, against a table of all days that is built by stepping from each day to the next
-//! (tests/support/plain.rs), and against the rows of document 01 and of change request Eight.
+//! (tests/support/plain.rs), and against the rows of document 01 and of change request Eight; and the three ways to a date of change
+//! request Ten against that table, which holds them to each other.
 
 mod support;
 
 use ovenquill::{
-    add_days, civil_from_days, day_of_year, days_from_civil, is_leap, last_day_of_month, weekday, Date, Weekday, DAYS,
-    MONTHS, YEARS,
+    add_days, civil_from_days, civil_from_days_audit, civil_from_days_plain, day_of_year, days_from_civil, is_leap,
+    last_day_of_month, weekday, Date, Refusal, Weekday, DAYS, MONTHS, YEARS,
 };
 use support::answer::answer;
 use support::answer::Answer::{Refused, Value};
 use support::plain::{self, FIRST_DAY, FIRST_LABEL_YEAR, FIRST_YEAR, LAST_DAY, LAST_LABEL_YEAR, LAST_YEAR};
 use support::random::Random;
 
-/// Holds every answer about a count to the table.
+/// The three ways to a date.
+const WAYS: [fn(i64) -> Result<Date, Refusal>; 3] = [civil_from_days, civil_from_days_plain, civil_from_days_audit];
+
+/// Holds every answer about a count to the table, but for the audit way's.
 fn try_count(days: i64) {
-    assert_eq!(answer(civil_from_days(days)), plain::civil_from_days(days), "the date of {days}");
+    let date = plain::civil_from_days(days);
+    assert_eq!(answer(civil_from_days(days)), date, "the date of {days}");
+    assert_eq!(answer(civil_from_days_plain(days)), date, "the date of {days} by divisions");
     let of_week = weekday(days).map(|weekday| (weekday.number(), weekday.name()));
     assert_eq!(answer(of_week), plain::weekday(days), "the weekday of {days}");
+}
+
+/// The same with the audit way, which takes too long to be tried on every day.
+fn try_every_way(days: i64) {
+    try_count(days);
+    assert_eq!(answer(civil_from_days_audit(days)), plain::civil_from_days(days), "the date of {days} by an audit");
 }
 
 /// Holds every answer about a date to the table.
@@ -27,7 +39,9 @@ fn try_date(date: Date) {
 
 /// Holds a count and a date to each other.
 fn try_row(days: i64, date: Date) {
-    assert_eq!(civil_from_days(days), Ok(date));
+    for way in WAYS {
+        assert_eq!(way(days), Ok(date));
+    }
     assert_eq!(days_from_civil(date), Ok(days));
 }
 
@@ -115,7 +129,7 @@ fn rows_of_change_request_eight() {
         assert_eq!(weekday(days), Ok(name));
     }
     for days in [-12407289, 10968232] {
-        assert_eq!(answer(civil_from_days(days)), Refused(4));
+        assert!(WAYS.iter().all(|way| answer(way(days)) == Refused(4)), "{days}");
         assert_eq!(answer(weekday(days)), Refused(4));
     }
     for (year, leap) in
@@ -202,22 +216,46 @@ fn every_day_both_ways() {
 }
 
 #[test]
+fn three_ways_to_a_date_in_the_range() {
+    // Of every year the first and the last day, 28 February, the last day of February and 1 March.
+    for year in FIRST_YEAR..=LAST_YEAR {
+        let count = |month, day| plain::days_from_civil(Date::new(year, month, day)).value();
+        let march = count(3, 1);
+        for days in [count(1, 1), count(2, 28), march - 1, march, count(12, 31)] {
+            try_every_way(days);
+        }
+    }
+    // Every day of a cycle of 400 years at each end, in the middle and across 1970-01-01.
+    let middle = FIRST_DAY + (LAST_DAY - FIRST_DAY) / 2;
+    for first in [FIRST_DAY, middle, -146097 / 2, LAST_DAY - 146096] {
+        (first..first + 146097).for_each(try_every_way);
+    }
+    let mut random = Random::new(4);
+    for _ in 0..1_000_000 {
+        try_every_way(random.within(FIRST_DAY, LAST_DAY));
+    }
+}
+
+#[test]
 fn counts_outside_the_range() {
     for beyond in 1..=100000 {
-        try_count(FIRST_DAY - beyond);
-        try_count(LAST_DAY + beyond);
+        try_every_way(FIRST_DAY - beyond);
+        try_every_way(LAST_DAY + beyond);
     }
     for days in support::powers() {
-        try_count(days);
+        try_every_way(days);
         // Counts that wrap into the range where a shift is added first.
         for shift in [FIRST_DAY, LAST_DAY, 719468, 719162, 2440588, 146097, 719468 + 81 * 146097] {
-            try_count(days.wrapping_sub(shift));
-            try_count(days.wrapping_add(shift));
+            try_every_way(days.wrapping_sub(shift));
+            try_every_way(days.wrapping_add(shift));
         }
+    }
+    for days in [FIRST_DAY - 1, LAST_DAY + 1, i64::MIN, i64::MAX] {
+        assert!(WAYS.iter().all(|way| way(days) == Err(Refusal::OutOfRange)), "{days}");
     }
     let mut random = Random::new(1);
     for _ in 0..1_000_000 {
-        try_count(random.next() as i64);
+        try_every_way(random.next() as i64);
     }
 }
 

@@ -99,7 +99,11 @@ fn calls_about_counts() {
     for _ in 0..300_000 {
         let days = some(&mut random, FIRST_DAY, LAST_DAY);
         let date = plain::civil_from_days(days);
-        try_place(date, DATE_BEFORE, |date| unsafe { raw::ovenquill_civil_from_days(days, date) });
+        for way in
+            [raw::ovenquill_civil_from_days, raw::ovenquill_civil_from_days_plain, raw::ovenquill_civil_from_days_audit]
+        {
+            try_place(date, DATE_BEFORE, |date| unsafe { way(days, date) });
+        }
         let number = match plain::weekday(days) {
             Value((number, _)) => number,
             refused => -refused_number(refused),

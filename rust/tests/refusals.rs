@@ -4,10 +4,10 @@
 mod support;
 
 use ovenquill::{
-    add_days, check_bound, civil_from_days, day_of_instant, days_from_civil, days_from_week, first_difference,
-    index_days, is_leap, join_instant, last_day_of_month, read_cue, read_instant, read_position, read_week, sheet,
-    week_from_days, weekday, write_instant, write_position, write_week, ClaimError, Clock, Constants, Date, Fields,
-    IndexError, Refusal, WeekDate,
+    add_days, check_bound, civil_from_days, civil_from_days_audit, civil_from_days_plain, day_of_instant,
+    days_from_civil, days_from_week, first_difference, index_days, is_leap, join_instant, last_day_of_month, read_cue,
+    read_instant, read_position, read_week, sheet, week_from_days, weekday, write_instant, write_position, write_week,
+    ClaimError, Clock, Constants, Date, Fields, IndexError, Refusal, WeekDate,
 };
 use std::error::Error;
 use std::fmt::Display;
@@ -129,6 +129,8 @@ fn each_refusal_is_given() {
             4,
             vec![
                 civil_from_days(i64::MAX).unwrap_err(),
+                civil_from_days_plain(i64::MIN).unwrap_err(),
+                civil_from_days_audit(i64::MAX).unwrap_err(),
                 weekday(i64::MIN).unwrap_err(),
                 add_days(Date::new(2023, 2, 28), i64::MAX).unwrap_err(),
                 day_of_instant(i64::MIN).unwrap_err(),
@@ -245,5 +247,8 @@ fn errors_that_hand_back_more() {
     assert_eq!(error, check_bound(CONSTANTS, 79).unwrap_err());
     let error: ClaimError = sheet::check(b"", 0).unwrap_err();
     assert_eq!((error.refusal, error.least), (Refusal::MalformedSheet, None));
-    assert_eq!(error.to_string(), "bytes that are no sheet, a note and numbers that make none, or a record that is not there");
+    assert_eq!(
+        error.to_string(),
+        "bytes that are no sheet, a note and numbers that make none, or a record that is not there"
+    );
 }

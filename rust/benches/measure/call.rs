@@ -162,6 +162,32 @@ impl Call for Waiting {
     }
 }
 
+/// A call of one number that waits for what the one before wrote.
+#[derive(Clone, Copy)]
+pub struct WaitingTo<T>(pub OneTo<T>);
+
+impl<T: Place> Call for WaitingTo<T> {
+    type Input = [i64; 1];
+    /// The place, and what is added to the next number: the upper half of the last answer's sum, which for a small sum is 0, or -1
+    /// where that is negative.
+    type Lent = (T, i64);
+
+    fn cleared(_: &Self::Input) -> (T, i64) {
+        (T::CLEARED, 0)
+    }
+
+    fn call(self, &[a]: &Self::Input, (place, added): &mut (T, i64)) -> i64 {
+        // SAFETY: the place is ours to lend.
+        let answer = unsafe { self.0(a + *added, place) };
+        *added = place.sum() >> 32;
+        answer
+    }
+
+    fn sum(_: &(T, i64)) -> i64 {
+        0
+    }
+}
+
 pub type Writer = unsafe extern "C" fn(i64, *mut u8, usize) -> i64;
 
 /// Buffers for labels, none across two cache lines. Each call writes to the next, so that no store waits for the last one.

@@ -134,6 +134,18 @@ pub fn line<C: Call>(what: &str, inputs: &Inputs<C::Input>, ours: C, rivals: &[(
     }
 }
 
+/// Measures ours where there is no rival, and prints a line with its best time for one call.
+pub fn line_alone<C: Call>(what: &str, inputs: &Inputs<C::Input>, ours: C) {
+    let mut lent = C::cleared(&inputs.list[0]);
+    let mut times: Times = vec![[0.0; ROUNDS]; inputs.parts];
+    for round in 0..ROUNDS {
+        for (part, times) in times.iter_mut().enumerate() {
+            times[round] = timed(ours, inputs.part(part), &mut lent);
+        }
+    }
+    println!("| {what} | none | | | | {} | |", shown(total(&times, 0) / inputs.counted()));
+}
+
 /// The seconds that each call takes: the best of five passes over all the inputs, so that a slow one is the call's and not
 /// the machine's.
 pub fn best_times<C: Call>(call: C, inputs: &[C::Input]) -> Vec<f64> {

@@ -15,10 +15,12 @@ pub const YEAR_0: u32 = -FIRST_YEAR as u32;
 const _: () = assert!(YEAR_0 % 400 == 0);
 /// From the first count of the computational calendar to 1970-01-01, which is 719468 days after 0000-03-01.
 const EPOCH: i64 = 719468 + 146097 * (YEAR_0 as i64 / 400 + 1);
+/// The year that it begins in.
+const BASE_YEAR: i64 = FIRST_YEAR - 400;
 /// A Monday before the first day: 1970-01-01 is three days after one.
 const MONDAY_BEFORE: i64 = 7 * (FIRST_DAY / 7 - 1) - 3;
 
-/// The two ways of a conversion: algorithms 3 and 4, or 5 and 6.
+/// The two ways from a date to its count: algorithms 4 and 6.
 pub const BY_DIVISIONS: bool = false;
 pub const BY_SHIFTS: bool = true;
 
@@ -38,30 +40,47 @@ impl Parts {
     }
 }
 
-/// Algorithm 5 by shifts, else algorithm 3. The count is in the range.
-#[inline(always)]
-pub fn date_of<const SHIFTS: bool>(days: i64) -> Parts {
-    let n = (days + EPOCH) as u32;
-    let n_1 = 4 * n + 3;
-    let c = n_1 / 146097;
-    let n_c = n_1 % 146097 / 4;
-    let n_2 = 4 * n_c + 3;
-    let (z, n_y) = if SHIFTS {
-        let p_2 = 2939745 * u64::from(n_2);
-        ((p_2 >> 32) as u32, p_2 as u32 / 2939745 / 4)
-    } else {
-        (n_2 / 1461, n_2 % 1461 / 4)
-    };
-    let y = 100 * c + z;
-    let (m, d, j) = if SHIFTS {
+/// Algorithm 5, of a count in the range, and what is made of its numbers: the year, which begins in March, the month, 3 to 14, the
+/// day, from 0, and whether the month is of the next year that begins in January. As a function it takes a tenth longer.
+macro_rules! by_shifts {
+    ($days:expr, |$y:ident, $m:ident, $d:ident, $j:ident| $date:expr) => {{
+        let n = ($days + EPOCH) as u32;
+        let n_1 = 4 * n + 3;
+        let c = n_1 / 146097;
+        let n_c = n_1 % 146097 / 4;
+        let n_2 = 4 * n_c + 3;
+        let p_2 = 2939745 * n_2 as u64;
+        let z = (p_2 >> 32) as u32;
+        let n_y = p_2 as u32 / 2939745 / 4;
+        let $y = 100 * c + z;
         let n_3 = 2141 * n_y + 197913;
-        (n_3 >> 16, n_3 % (1 << 16) / 2141, u32::from(n_y >= 306))
-    } else {
-        let n_3 = 5 * n_y + 461;
-        let m = n_3 / 153;
-        (m, n_3 % 153 / 5, u32::from(m >= 13))
+        let $m = n_3 >> 16;
+        let $d = n_3 % (1 << 16) / 2141;
+        let $j = n_y >= 306;
+        $date
+    }};
+}
+
+/// The same, as a date.
+macro_rules! civil_by_shifts {
+    ($days:expr) => {
+        by_shifts!($days, |y, m, d, j| {
+            let month = if j { m - 12 } else { m };
+            Date::new(y as i64 + BASE_YEAR + j as i64, month as i64, (d + 1) as i64)
+        })
     };
-    Parts { year: y + j - 400, month: m - 12 * j, day: d + 1 }
+}
+
+/// The date of a count in the range, by algorithm 5.
+#[inline(always)]
+pub fn civil_of(days: i64) -> Date {
+    civil_by_shifts!(days)
+}
+
+/// The same, with its year counted from the first.
+#[inline(always)]
+pub fn date_of(days: i64) -> Parts {
+    by_shifts!(days, |y, m, d, j| Parts { year: y + u32::from(j) - 400, month: m - 12 * u32::from(j), day: d + 1 })
 }
 
 /// Algorithm 6 by shifts, else algorithm 4.
@@ -132,23 +151,46 @@ pub fn checked_count(days: i64) -> Result<i64, i64> {
     }
 }
 
-/// The date of a count, or refusal 4.
-#[inline(always)]
-fn checked_date_of<const SHIFTS: bool>(days: i64) -> Result<Date, i64> {
-    checked_count(days).map(|days| {
-        let date = date_of::<SHIFTS>(days);
-        Date::new(date.calendar_year(), date.month.into(), date.day.into())
-    })
-}
-
 #[inline(never)]
 pub unsafe extern "C" fn days_from_civil<const SHIFTS: bool>(year: i64, month: i64, day: i64, days: *mut i64) -> i64 {
     to_place(days, checked_date(year, month, day).map(days_of::<SHIFTS>))
 }
 
+/// Makes algorithm 3 in numbers of a type.
+macro_rules! civil_from_days_by_divisions {
+    ($name:ident, $number:ident) => {
+        #[inline(never)]
+        pub unsafe extern "C" fn $name(days: i64, date: *mut Date) -> i64 {
+            let answer = checked_count(days).map(|days| {
+                let n = (days + EPOCH) as $number;
+                let n_1 = 4 * n + 3;
+                let c = n_1 / 146097;
+                let n_c = n_1 % 146097 / 4;
+                let n_2 = 4 * n_c + 3;
+                let z = n_2 / 1461;
+                let n_y = n_2 % 1461 / 4;
+                let y = 100 * c + z;
+                let n_3 = 5 * n_y + 461;
+                let m = n_3 / 153;
+                let d = n_3 % 153 / 5;
+                let j = $number::from(m >= 13);
+                Date::new((y + j - 400) as i64 + FIRST_YEAR, (m - 12 * j) as i64, (d + 1) as i64)
+            });
+            to_place(date, answer)
+        }
+    };
+}
+
+civil_from_days_by_divisions!(civil_from_days_u32, u32);
+civil_from_days_by_divisions!(civil_from_days_u64, u64);
+
 #[inline(never)]
-pub unsafe extern "C" fn civil_from_days<const SHIFTS: bool>(days: i64, date: *mut Date) -> i64 {
-    to_place(date, checked_date_of::<SHIFTS>(days))
+pub unsafe extern "C" fn civil_from_days_by_shifts(days: i64, date: *mut Date) -> i64 {
+    if let Err(refusal) = checked_count(days) {
+        return -refusal;
+    }
+    date.write(civil_by_shifts!(days));
+    0
 }
 
 #[inline(never)]
@@ -192,6 +234,7 @@ pub unsafe extern "C" fn day_of_year(year: i64, month: i64, day: i64) -> i64 {
 pub unsafe extern "C" fn add_days(year: i64, month: i64, day: i64, days: i64, date: *mut Date) -> i64 {
     let shifted = checked_date(year, month, day)
         .and_then(|from| days_of::<BY_SHIFTS>(from).checked_add(days).ok_or(4))
-        .and_then(checked_date_of::<BY_SHIFTS>);
+        .and_then(checked_count)
+        .map(civil_of);
     to_place(date, shifted)
 }

@@ -48,7 +48,7 @@ pub unsafe extern "C" fn day_of_instant(instant: i64, days: *mut i64) -> i64 {
 pub unsafe extern "C" fn split_instant(instant: i64, fields: *mut Fields) -> i64 {
     let split = checked(instant).map(|instant| {
         let (days, time) = day_and_time(instant);
-        let date = date_of::<BY_SHIFTS>(days);
+        let date = date_of(days);
         let seconds = time / SECOND as u32;
         Fields {
             year: date.calendar_year(),

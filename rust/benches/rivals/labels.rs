@@ -1,6 +1,6 @@
 //! Labels: written two digits at a time, from a table or by a division, and read.
 
-use super::calendar::{date_of, month_length, Parts, BY_SHIFTS, YEAR_0};
+use super::calendar::{civil_of, month_length, Parts, YEAR_0};
 use super::instants::{checked, day_and_time, joined, DAY, HOUR, MINUTE, SECOND};
 use super::{returned, to_place};
 use core::ops::RangeInclusive;
@@ -62,15 +62,15 @@ pub unsafe extern "C" fn write_instant<const TABLE: bool>(instant: i64, out: *mu
         return -7;
     }
     let (days, time) = day_and_time(instant);
-    let date = date_of::<BY_SHIFTS>(days);
-    let year = date.year - YEAR_0;
+    let date = civil_of(days);
+    let year = date.year as u32;
     let rest = time % HOUR as u32;
     put_pair::<TABLE>(out, year / 100);
     put_pair::<TABLE>(out.add(2), year % 100);
     *out.add(4) = b'-';
-    put_pair::<TABLE>(out.add(5), date.month);
+    put_pair::<TABLE>(out.add(5), date.month as u32);
     *out.add(7) = b'-';
-    put_pair::<TABLE>(out.add(8), date.day);
+    put_pair::<TABLE>(out.add(8), date.day as u32);
     *out.add(10) = b'T';
     put_pair::<TABLE>(out.add(11), time / HOUR as u32);
     *out.add(13) = b':';

@@ -50,6 +50,22 @@ pub unsafe extern "C" fn week_from_days(days: i64, week: *mut WeekDate) -> i64 {
     to_place(week, date)
 }
 
+/// The same by remainders and quotients alone: algorithm 3 without its months, of the week's Thursday.
+#[inline(never)]
+pub unsafe extern "C" fn week_from_days_by_divisions(days: i64, week: *mut WeekDate) -> i64 {
+    let date = checked_count(days).map(|days| {
+        let n = (days + EPOCH) as u32;
+        let thursday = n - n % 7 + 3;
+        let n_1 = 4 * thursday + 3;
+        let c = n_1 / 146097;
+        let n_c = n_1 % 146097 / 4;
+        let n_2 = 4 * n_c + 3;
+        let (z, n_y) = (n_2 / 1461, n_2 % 1461 / 4);
+        WeekDate::new(i64::from(100 * c + z) + FIRST_YEAR, (n_y / 7 + 1).into(), (n % 7 + 1).into())
+    });
+    to_place(week, date)
+}
+
 /// How many weeks lie before a year's first.
 #[inline(always)]
 const fn first_week(year: u32) -> u32 {
@@ -92,6 +108,29 @@ fn checked_days_of(year: i64, week: i64, weekday: i64) -> Result<i64, i64> {
 #[inline(never)]
 pub unsafe extern "C" fn days_from_week(year: i64, week: i64, weekday: i64, days: *mut i64) -> i64 {
     to_place(days, checked_days_of(year, week, weekday))
+}
+
+/// The Monday of a year's first week, by the leap rule as it is said.
+#[inline(always)]
+fn first_monday(year: u32) -> u32 {
+    let in_first_week = 365 * year + year / 4 - year / 100 + year / 400 + 3;
+    in_first_week - in_first_week % 7
+}
+
+/// The same by remainders and quotients alone. Whether a year has a week 53 is asked of dates in that week only.
+#[inline(never)]
+pub unsafe extern "C" fn days_from_week_by_divisions(year: i64, week: i64, weekday: i64, days: *mut i64) -> i64 {
+    if !(*WEEK_YEARS.start()..=*WEEK_YEARS.end()).contains(&year) {
+        return -1;
+    }
+    let year = (year - FIRST_YEAR) as u32;
+    let monday = first_monday(year);
+    let has_week = if week == 53 { first_monday(year + 1) - monday == 371 } else { (1..=52).contains(&week) };
+    if !has_week || !(1..=7).contains(&weekday) {
+        return -16;
+    }
+    let reached = i64::from(monday + 7 * (week as u32 - 1) + weekday as u32 - 1) - EPOCH;
+    to_place(days, checked_count(reached))
 }
 
 #[inline(never)]
