@@ -15,6 +15,8 @@ use Rattle.calendar.specs.declared.Date.{Date}
 use Rattle.calendar.specs.declared.DateAnswer.{DateAnswer}
 use Rattle.calendar.specs.Answers.{dateOutcome, civilAnswer}
 use Rattle.calendar.proofs.civil_from_days as fast
+use Rattle.calendar.proofs.civil_from_days.Met as fast-met
+use Rattle.calendar.proofs.civil_from_days.Symbol as fast-symbol
 use Rattle.calendar.proofs.plain.civil_from_days as plain
 use Rattle.calendar.proofs.plain.civil_from_days.Met as plain-met
 use Rattle.calendar.proofs.plain.civil_from_days.Symbol as plain-symbol
@@ -48,7 +50,8 @@ module _ {M : Type 1} (𝓤 : URA M) (H : Heap 𝓤) (𝓜 : Model 𝓤 H) (𝓖
       fact-use 𝓤 (s ≡ answer) (conjR 𝓤 first second) (λ q.
       factI 𝓤 (r ≡ s) (conj 𝓤 first second) (p ∙ sym q)))
 
-  -- to the same count each answers the same date or the same refusal as the fast way; and the code of each meets the contract of that
+  -- to the same count each answers the same date or the same refusal as the fast way; the code of each meets the contract of the fast
+  -- way, and the fast code that of the plain one
   pub record Equal : Type 2 where
     pub plain-same :
         (given : Args fast.signature tt) (end : AtExit fast.ended tt) (r s : DateAnswer) →
@@ -59,6 +62,7 @@ module _ {M : Type 1} (𝓤 : URA M) (H : Heap 𝓤) (𝓜 : Model 𝓤 H) (𝓖
     pub table-same :
         (given : Args fast.signature tt) (end : AtExit fast.ended tt) (r s : DateAnswer) →
         ent 𝓤 (conj 𝓤 (fast-says given end r) (table-says given end s)) (fact 𝓤 (dateOutcome r ≡ dateOutcome s))
+    pub fast-meets : Meets 𝓤 H (𝓖 .A) fast.signature (𝓡 .run fast-symbol.routine) (plain.spec 𝓤 H (𝓖 .A) (𝓜 .mem) (𝓡 .run))
     pub plain-meets : Meets 𝓤 H (𝓖 .A) plain.signature (𝓡 .run plain-symbol.routine) (fast.spec 𝓤 H (𝓖 .A) (𝓜 .mem) (𝓡 .run))
     pub audit-meets : Meets 𝓤 H (𝓖 .A) audit.signature (𝓡 .run audit-symbol.routine) (fast.spec 𝓤 H (𝓖 .A) (𝓜 .mem) (𝓡 .run))
     pub table-meets : Meets 𝓤 H (𝓖 .A) table.signature (𝓡 .run table-symbol.routine) (fast.spec 𝓤 H (𝓖 .A) (𝓜 .mem) (𝓡 .run))
@@ -68,6 +72,7 @@ module _ {M : Type 1} (𝓤 : URA M) (H : Heap 𝓤) (𝓜 : Model 𝓤 H) (𝓖
     plain-same = λ given end r s. same (civilAnswer (given .0)) (dateOutcome r) (dateOutcome s);
     audit-same = λ given end r s. same (civilAnswer (given .0)) (dateOutcome r) (dateOutcome s);
     table-same = λ given end r s. same (civilAnswer (given .0)) (dateOutcome r) (dateOutcome s);
+    fast-meets = fast-met.met 𝓤 H 𝓜 𝓖 𝓡;
     plain-meets = plain-met.met 𝓤 H 𝓜 𝓖 𝓡;
     audit-meets = audit-met.met 𝓤 H 𝓜 𝓖 𝓡;
     table-meets = table-met.met 𝓤 H 𝓜 𝓖 𝓡;

@@ -12,7 +12,7 @@ use mir.Val.{SFits, toZ, boolByte}
 use mir.Facts.{toZ-pos}
 use Rattle.numbers.proofs.Machine.{read, add-first, add-first-is}
 use Rattle.calendar.specs.Gregorian.{dateOf, dateAfter}
-use Rattle.day_table.specs.Year.{newYear, monthOf, dayOf}
+use Rattle.day_table.specs.Closed.{newYear, closedMonth, closedDay}
 use Rattle.day_table.proofs.Rule.{new-year}
 use Rattle.calendar.specs.Closed.{cycle, fromYear, baseYear, lastDay, firstFromMarch, leapDay, leaps, start, before, Valid, InRange, dayNumber, public, beforeMarch}
 use Rattle.calendar.proofs.Leap.{leaps-step, leaps-next, few}
@@ -77,14 +77,14 @@ module _ (n : ℕ) (h : n ≤ lastDay) where
   year-adds {y} e = let l = year-fits in add-first baseYear y (omega arith)
 
   pub date-made :
-      {y m d : ℕ} → y ≡ marchYear n + newYear (marchDay n) → m ≡ monthOf (marchDay n) → d ≡ dayOf (marchDay n) →
+      {y m d : ℕ} → y ≡ marchYear n + newYear (marchDay n) → m ≡ closedMonth (marchDay n) → d ≡ closedDay (marchDay n) →
       dateOf (read (toZ w64 y +ℤ baseYear)) (toZ w64 m) (toZ w64 d) ≡ dateAfter n
   date-made {y} {m} {d} p q r =
       let l = day-small in
       let f = year-fits in
       made y m d (omega arith) (omega arith) (omega arith)
       ∙ (λ i. public (p i) (q i) (r i))
-      ∙ (λ i. public (same-year n i + newYear (same-day n i)) (monthOf (same-day n i)) (dayOf (same-day n i)))
+      ∙ (λ i. public (same-year n i + newYear (same-day n i)) (closedMonth (same-day n i)) (closedDay (same-day n i)))
       ∙ sym (algorithm-3 n)
 
 pub before-march-le : (m : ℕ) → beforeMarch m ≤ 1

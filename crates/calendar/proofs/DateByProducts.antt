@@ -9,7 +9,8 @@ use lib.IntN.{_+ℤ_}
 use mir.Syntax.{w64}
 use mir.Val.{SFits, toZ, boolByte}
 use Rattle.numbers.proofs.Machine.{read}
-use Rattle.day_table.specs.Year.{newYear, monthAt, dayAt, monthAndDay}
+use Rattle.day_table.specs.Year.{monthAt, dayAt, monthAndDay}
+use Rattle.day_table.specs.Closed.{newYear}
 use Rattle.day_table.proofs.Rule.{in-year, small}
 use Rattle.calendar.specs.Gregorian.{dateOf, dateAfter}
 use Rattle.calendar.specs.Closed.{baseYear, lastDay}

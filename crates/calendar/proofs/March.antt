@@ -10,7 +10,7 @@ use lib.Dec.{leb}
 use borrow.Author.Tests.{leb-true, leb-false}
 use mir.Val.{boolByte}
 use Rattle.calendar.specs.Gregorian.{dateAfter}
-use Rattle.day_table.specs.Year.{newYear}
+use Rattle.day_table.specs.Closed.{newYear}
 use Rattle.calendar.specs.Closed.{cycle, firstFromMarch, leapDay, leaps, start, monthDays, before, Valid, dayNumber, public}
 use Rattle.calendar.proofs.Leap.{leap-le, leap-is-one, leaps-next}
 use Rattle.calendar.proofs.Months.{UpTo, up-to}

@@ -14,5 +14,8 @@ pub const BASE_YEAR: i64 = FIRST_YEAR - CYCLE_YEARS;
 // The count of the first day of BASE_YEAR.
 pub const BASE_COUNT: i64 = FIRST_COUNT - CYCLE as i64;
 
+// The first day of the range, counted from 1 March of BASE_YEAR: January and February of a leap year have 60 days.
+pub const FIRST_FROM_MARCH: u64 = CYCLE - 60;
+
 // So many days, 0 to 6, the first day of the range comes after a Monday: day 0 is a Thursday, three days after one.
 pub const FIRST_AFTER_MONDAY: u64 = ((FIRST_COUNT % 7 + 7 + 3) % 7) as u64;

@@ -2,7 +2,7 @@
 // The years begin on 1 March and are counted from BASE_YEAR.
 
 use super::base::BASE_YEAR;
-use super::base::CYCLE;
+use super::base::FIRST_FROM_MARCH;
 use super::products::CENTURY;
 use super::products::TO_JANUARY;
 use super::products::YEAR;
@@ -11,9 +11,6 @@ ghost use mathlib.Core.Path.{_≡_};
 ghost use Prim.Native.Nat.{_+_, _-_, _*_, _/_, _%_, _≤_, _<_};
 ghost use Rattle.calendar.specs.Gregorian.{dateAfter};
 ghost use Rattle.calendar.specs.Closed.{lastDay, daysEnd, regularDay};
-
-// The first day of the range, counted from 1 March of BASE_YEAR: January and February of a leap year have 60 days.
-pub const FIRST_FROM_MARCH: u64 = CYCLE - 60;
 
 // The date n days after the first.
 pub fn date_after(n: u64) -> Date
@@ -40,7 +37,7 @@ pub fn regular(n: u64) -> u64
 }
 
 // The day of the year of a regular day, from 0: what is left of the year's product is a part of a year, which has 1461 quarters of a
-// day. It follows from the record of the year (`day-product`).
+// day. It follows from the record of the year, place 2 (`day-product`).
 pub fn day_of_year(d: u64) -> u64
     requires { ⌜ (1 ≤ d) × (d ≤ daysEnd) ⌝ }
     ensures { λ r. ⌜ r ≡ (4 * d - 1) % 1461 / 4 ⌝ }

@@ -2,6 +2,7 @@
 // into its caller, which it does of a function of this size where there is one caller only: the C interface is that one.
 
 use super::base::BASE_YEAR;
+use super::base::FIRST_FROM_MARCH;
 use super::fast;
 use super::range::FIRST_COUNT;
 use super::range::LAST_COUNT;
@@ -29,7 +30,7 @@ fn date_after(n: u64) -> Date
     requires { ⌜ n ≤ lastDay ⌝ }
     ensures { λ r. ⌜ r ≡ dateAfter n ⌝ }
 {
-    let d = fast::regular(n + fast::FIRST_FROM_MARCH);
+    let d = fast::regular(n + FIRST_FROM_MARCH);
     let entry = day_table::month_and_day(fast::day_of_year(d));
     Date {
         year: fast::january_year(d) as i64 + BASE_YEAR,

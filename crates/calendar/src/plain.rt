@@ -4,6 +4,7 @@
 
 use super::base::BASE_YEAR;
 use super::base::CYCLE;
+use super::base::FIRST_FROM_MARCH;
 use super::range::FIRST_COUNT;
 use super::range::LAST_COUNT;
 use crate::Date;
@@ -17,8 +18,7 @@ ghost use Rattle.calendar.specs.Closed.{lastDay, fromMarch};
 
 const FOUR_CENTURIES: u32 = CYCLE as u32;
 
-// The first day of the range, counted from 1 March of BASE_YEAR: January and February of a leap year have 60 days.
-const FIRST_FROM_MARCH: u32 = FOUR_CENTURIES - 60;
+const FIRST: u32 = FIRST_FROM_MARCH as u32;
 
 // Days from 1 March to the first of each month, March to the February after it.
 const DAYS_FROM_MARCH: [u16; 12] = [0, 31, 61, 92, 122, 153, 184, 214, 245, 275, 306, 337];
@@ -39,7 +39,7 @@ fn date_after(n: u32) -> Date
     requires { ⌜ n ≤ lastDay ⌝ }
     ensures { λ r. ⌜ r ≡ dateAfter n ⌝ }
 {
-    let n_0 = n + FIRST_FROM_MARCH; // [146037, 146037 + lastDay]
+    let n_0 = n + FIRST; // [146037, 146037 + lastDay]
     let c = (4 * n_0 + 3) / FOUR_CENTURIES; // [3, toYear / 100]
     let regular = n_0 + c - c / 4; // [146040, 1461 * (toYear + 1) / 4]
     let y = (4 * regular + 3) / 1461; // [399, toYear], from March to February

@@ -1,10 +1,11 @@
 // Multipliers of quotients that are made by a product and a shift. Each has a claim in the sheet of constants, which the checker
 // accepts. Beside a multiplier stands the place of its record, whose last number is the least input at which the quotient is wrong.
 
-// The century of a day that is counted from 1, with a shift by 42: place 1. A day is 4 of the 146097 days of four centuries.
+// The century of a day that is counted from 1, with a shift by 42: place 1. A century has 146097 quarters of a day, and a day is 4.
 pub const CENTURY: u64 = 120414423;
 
-// The year of a day that is counted from 1, where every fourth year is leap, with a shift by 33: place 2. A day is 4 of 1461.
+// The year of a day that is counted from 1, where every fourth year is leap, with a shift by 33: place 2. A year has 1461
+// quarters of a day.
 pub const YEAR: u64 = 23517959;
 
 // What is added to a day's product to have the year from January of a day that is counted from 1 March, with the same shift: place 3.

@@ -8,12 +8,13 @@ use native.Mathlib.Nat.{add-zero, zero-add, add-suc, suc-add, le-of-suc-le-suc, 
 use native.Mathlib.Omega.{arith}
 use lib.Dec.{eqb, leb}
 use lib.ListN.{length, getD}
-use borrow.Author.Tests.{eqb-true, lt-ltb, le-ltb, leb-true, le-leb, lt-leb}
+use borrow.Author.Tests.{eqb-true, le-ltb, leb-true, le-leb, lt-leb}
 use mir.Val.{boolByte}
 use Rattle.numbers.proofs.Bools.{and-left, and-right}
 use Rattle.constants.proofs.Trials.{by-shift}
 use Rattle.day_table.specs.Table.{entries}
-use Rattle.day_table.specs.Year.{newYear, monthOf, dayOf, monthAt, dayAt, monthAndDay}
+use Rattle.day_table.specs.Year.{Month, months, monthIn, dayIn, monthAt, dayAt, monthAndDay}
+use Rattle.day_table.specs.Closed.{newYear, closedMonth, closedDay}
 use Rattle.day_table.proofs.Records.{month}
 
 -- a test passes at each entry of a list and its place, counted from i
@@ -29,39 +30,51 @@ at-place test (x ∷ xs) i t (suc k) h =
     subst (λ (j : ℕ). test j (getD xs k 0) ≡ true) (suc-add i k ∙ sym (add-suc i k))
     (at-place test xs (suc i) (and-right (test i x) (every test (suc i) xs) t) k (le-of-suc-le-suc h))
 
--- past the end of a list
+-- past the end of a list, and of the days of some months
 past : (xs : List ℕ) (k : ℕ) → length xs ≤ k → getD xs k 0 ≡ 0
 past [] k h = refl
 past (x ∷ xs) zero h = absurd (not-suc-le-zero h)
 past (x ∷ xs) (suc k) h = past xs k (le-of-suc-le-suc h)
 
--- the rule
+abbrev days : List Month → ℕ
+days [] = 0
+days (m ∷ ms) = m .length + days ms
+
+past-months : (ms : List Month) (k : ℕ) → days ms ≤ k → (monthIn ms k ≡ 0) × (dayIn ms k ≡ 0)
+past-months [] k h = (refl, refl)
+past-months (m ∷ ms) k h = rw (le-ltb k (m .length) (omega arith)) (past-months ms (k - m .length) (omega arith))
+
+-- the rule: an entry is the month and the day, and these are the closed forms
 follows : ℕ → ℕ → Bool
-follows k x = eqb x (256 * monthOf k + dayOf k)
+follows k x = eqb x (256 * monthIn months k + dayIn months k) && (eqb (monthIn months k) (closedMonth k) && eqb (dayIn months k) (closedDay k))
 
 all-follow : every follows 0 entries ≡ true
 unfolding every follows
 all-follow = refl
 
-pub entry-is : (k : ℕ) → k < 366 → getD entries k 0 ≡ 256 * monthOf k + dayOf k
-unfolding follows
-entry-is k h = subst (λ (j : ℕ). getD entries k 0 ≡ 256 * monthOf j + dayOf j) (zero-add k) (eqb-true _ _ (at-place follows entries 0 all-follow k h))
+followed : (k : ℕ) → k < 366 → follows k (getD entries k 0) ≡ true
+followed k h = subst (λ (j : ℕ). follows j (getD entries k 0) ≡ true) (zero-add k) (at-place follows entries 0 all-follow k h)
 
 -- a day of the year, and one that is none
-pub in-year : (k : ℕ) → k < 366 → (monthAt k ≡ monthOf k) × (dayAt k ≡ dayOf k)
-unfolding monthAt dayAt
-in-year k h = (rw (lt-ltb k 366 h), rw (lt-ltb k 366 h))
+pub in-year : (k : ℕ) → k < 366 → (monthAt k ≡ closedMonth k) × (dayAt k ≡ closedDay k)
+unfolding monthAt dayAt follows
+in-year k h =
+    let f = and-right (eqb (getD entries k 0) _) _ (followed k h) in
+    (eqb-true _ _ (and-left (eqb (monthIn months k) (closedMonth k)) _ f), eqb-true _ _ (and-right (eqb (monthIn months k) (closedMonth k)) _ f))
 
 pub past-year : (k : ℕ) → 366 ≤ k → (monthAt k ≡ 0) × (dayAt k ≡ 0)
 unfolding monthAt dayAt
-past-year k h = (rw (le-ltb k 366 h), rw (le-ltb k 366 h))
+past-year k h = past-months months k h
 
 pub rule : (k : ℕ) → getD entries k 0 ≡ monthAndDay k
+unfolding monthAt dayAt follows
 rule k = go (decLt k 366)
   where
-    go : Dec (k < 366) → getD entries k 0 ≡ monthAndDay k
-    go (yes h) = let e = in-year k h in entry-is k h ∙ ap₂ (λ m d. 256 * m + d) (sym (e .0)) (sym (e .1))
-    go (no h) = let e = past-year k (omega arith) in past entries k (omega arith) ∙ ap₂ (λ m d. 256 * m + d) (sym (e .0)) (sym (e .1))
+    go : Dec (k < 366) → getD entries k 0 ≡ 256 * monthIn months k + dayIn months k
+    go (yes h) = eqb-true _ _ (and-left (eqb (getD entries k 0) _) _ (followed k h))
+    go (no h) =
+        let e = past-months months k (omega arith) in
+        past entries k (omega arith) ∙ ap₂ (λ m d. 256 * m + d) (sym (e .0)) (sym (e .1))
 
 pub small : (k : ℕ) → (monthAt k ≤ 14) × (dayAt k ≤ 31)
 small k = go (decLt k 366)

@@ -2,3 +2,4 @@
 pub mod Year
 -- What only proofs and private contracts need.
 pub mod Table
+pub mod Closed

@@ -1,26 +1,38 @@
--- The days of a year that begins on 1 March: source document 000, section 6.
-use Prim.Native.Nat.{ℕ, _+_, _-_, _*_, _/_, _%_}
+-- The days of a year that begins on 1 March and ends with a 29 February, by the lengths of its months: document 01, "Calendar rules".
+use Prim.Native.Nat.{ℕ, _+_, _-_, _*_}
 use mathlib.Core.Bool.{cond}
-use lib.Dec.{leb, ltb}
-use mir.Val.{boolByte}
+use mathlib.Core.List.{List, [], _∷_}
+use lib.Dec.{ltb}
 
--- 1 for the days of January and February, the last ones
-abbrev pub newYear : ℕ → ℕ
-newYear k = boolByte (leb 306 k)
+-- a month and its length
+pub record Month : Type 0 where
+  pub number : ℕ
+  pub length : ℕ
 
--- the month of the day k, from 3 for March to 12 for December, then 1 and 2, and the day of the month
-abbrev pub monthOf : ℕ → ℕ
-monthOf k = (5 * k + 461) / 153 - 12 * newYear k
+abbrev pub monthOf : (number length : ℕ) → Month
+monthOf number length = record { number = number; length = length }
 
-abbrev pub dayOf : ℕ → ℕ
-dayOf k = (5 * k + 461) % 153 / 5 + 1
+-- the months from March on, with the lengths of a leap year
+abbrev pub months : List Month
+months =
+    monthOf 3 31 ∷ monthOf 4 30 ∷ monthOf 5 31 ∷ monthOf 6 30 ∷ monthOf 7 31 ∷ monthOf 8 31
+    ∷ monthOf 9 30 ∷ monthOf 10 31 ∷ monthOf 11 30 ∷ monthOf 12 31 ∷ monthOf 1 31 ∷ monthOf 2 29 ∷ []
 
--- the same, and 0 where the year has no such day
+-- the month of the day k of some months, and the day of it, both 0 where they have no such day; days are counted from 0, and those of a
+-- month from 1
+abbrev pub monthIn : List Month → ℕ → ℕ
+monthIn [] k = 0
+monthIn (m ∷ ms) k = cond (ltb k (m .length)) (m .number) (monthIn ms (k - m .length))
+
+abbrev pub dayIn : List Month → ℕ → ℕ
+dayIn [] k = 0
+dayIn (m ∷ ms) k = cond (ltb k (m .length)) (k + 1) (dayIn ms (k - m .length))
+
 unfoldable pub monthAt : ℕ → ℕ
-monthAt k = cond (ltb k 366) (monthOf k) 0
+monthAt k = monthIn months k
 
 unfoldable pub dayAt : ℕ → ℕ
-dayAt k = cond (ltb k 366) (dayOf k) 0
+dayAt k = dayIn months k
 
 -- both as one number
 abbrev pub monthAndDay : ℕ → ℕ

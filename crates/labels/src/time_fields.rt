@@ -1,13 +1,16 @@
 // The fields of a time that labels show, by products with 32 bits behind the point: each factor is 2^32 / d rounded up, so that the
-// product of n holds n / d, and behind the point (n % d) / d with an error that is too small to reach the next number.
+// product of n holds n / d, and behind the point (n % d) / d with an error that is too small to reach the next number. What is behind
+// the point follows from the factor's record.
 
 ghost use mathlib.Core.Path.{_≡_};
 ghost use Prim.Native.Nat.{_+_, _*_, _/_, _%_, _<_};
 
 const ONE: u64 = 0x1_0000_0000;
 
+// The hours of minutes, with a shift by 32: place 8 of the sheet of constants.
 const ONE_BY_60: u64 = 71582789;
 
+// The seconds of milliseconds, with a shift by 32: place 9 of the sheet of constants.
 const ONE_BY_1000: u64 = 4294968;
 
 // The hours of some minutes, and the minutes beyond them.

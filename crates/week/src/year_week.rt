@@ -13,7 +13,7 @@ pub struct YearWeek {
 }
 
 // The year of day n, and its seven days, of which the first seven of the year are 1. A year has 13357 / 256 weeks, a little less; that
-// the week is right by what is left of the year's product follows from the record of the year (`week-product`).
+// the week is right by what is left of the year's product follows from the record of the year, place 2 (`week-product`).
 pub fn of_day(n: u64) -> YearWeek
     requires { ⌜ n ≤ toDay + 3 ⌝ }
     ensures { λ r. ⌜ InYear n (r .year) × (r .week ≡ (n - firstDay (r .year)) / 7 + 1) ⌝ }
