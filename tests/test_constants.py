@@ -5,8 +5,8 @@ and to the code that has the constants.
     test_constants.py WRITE_SHEET CHECK_SHEET SCAN_CLAIMS
 
 The arguments are the example write_sheet, which writes the sheet anew from what tools/list_constants lists, check_sheet, and the
-program of tests/c/scan_claims.c, which tries every n up to the bound of a claim. The first n are tried here once more, and so are
-the bound and the largest input of the code. Then each comparison is made with one fault, which it must find.
+program of tests/c/scan_claims.c, which tries every n up to the bound of a claim. The bound and the largest input of the code are tried
+here once more. Then each comparison is made with one fault, which it must find.
 """
 import re
 import shutil
@@ -21,29 +21,47 @@ LIST_CONSTANTS = REPOSITORY / "tools" / "list_constants"
 NOTE = "Constants of the calendar and of the labels"
 MULTIPLIER, BOUND = 3, 7
 
-# every n below it is tried here
-SCANNED = 300000
 
-# The largest input that the code has for the claim at each place.
-LARGEST = [
-    365,  # the last day of a year from March
-    23521556,  # the last day of the range, from 1 March of the year -32400
-    23522039,  # the same as if every fourth year were leap
-    23522040,  # the same, counted from 1
-    2**27 - 1,  # what the weekday of a day allows
-    64399,  # the last year of the range, from the year -32400
-    9999,  # four digits
-    99,  # two digits
-]
+
+def number_of(file, name):
+    """A constant of the crates that is a number."""
+    return int(re.search(rf"const {name}: \w+ = (-?\d+);", (CRATES / file).read_text())[1])
+
+
+def largest_inputs():
+    """The largest input that the code has for the claim at each place."""
+    cycle = number_of("calendar/src/base.rt", "CYCLE")
+    first, last = (number_of("calendar/src/range.rt", f"{end}_COUNT") for end in ("FIRST", "LAST"))
+    first_year, last_year = (number_of("calendar/src/range.rt", f"{end}_YEAR") for end in ("FIRST", "LAST"))
+    day = last - first + cycle - 60  # the last day of the range, from 1 March of one cycle before its first year
+    century = (4 * day + 3) // cycle
+    regular = day + century - century // 4  # the same as if every fourth year were leap
+    return [
+        365,  # the last day of a year from March
+        day,
+        regular,
+        regular + 1,  # counted from 1
+        2**27 - 1,  # what the weekday of a day allows
+        last_year - first_year + 400,  # the last year of the range, from one cycle before the first
+        9999,  # four digits
+        99,  # two digits
+        6000000 - 1,  # the minutes of a label
+        60000 - 1,  # the milliseconds of a minute
+    ]
+
 
 # The file of the crates, a text of it, what is put in its place, and a word that list_constants --code must say.
-PRODUCTS, DIGITS = "calendar/src/products.rt", "labels/src/digits.rt"
+PRODUCTS, DAYS = "calendar/src/products.rt", "day_table/src/lib.rt"
+DIGITS, TIMES = "labels/src/digits.rt", "labels/src/time_fields.rt"
 FAULTS_OF_CODE = [
     ("a place for another", PRODUCTS, "shift by 24: place 5", "shift by 24: place 6", "place 6 has the multiplier 5243"),
-    ("a place that is left out", PRODUCTS, "shift by 24: place 5", "shift by 24: place 6", "no file names place 5"),
-    ("a place for another, and a 0", PRODUCTS, "by 24: place 5", "by 24, from 0: place 6", "place 6 has the multiplier 5243"),
-    ("a place that is not there", DIGITS, "(place 7", "(place 8", "there is no place 8"),
-    ("no place", "day_table/src/lib.rt", ": place 0 of", ", of", "no file names place 0"),
+    ("a place for another, and a 0", PRODUCTS, "by 24: place 5", "by 24, from 0: place 6", "no file names place 5"),
+    ("a place that is not there", DIGITS, "(place 7", "(place 10", "there is no place 10"),
+    ("another shift", PRODUCTS, "shift by 24: place 5", "shift by 25: place 5", "place 5 has the shift 24, not 25"),
+    ("a product without a place", DIGITS, "(n * HUNDREDTH) >> 19", "(n * 656) >> 16", "no place for the product of"),
+    ("such a product without a shift", TIMES, "minutes * ONE_BY_60 / ONE", "minutes * 71582790 / ONE", "no place for the product of"),
+    ("another number added to a product", DAYS, "= 197913;", "= 197914;", "place 0 has the multiplier 2141 and adds 197913"),
+    ("no place", DAYS, ": place 0 of", ", of", "no file names place 0"),
     ("another multiplier", PRODUCTS, "= 120414423;", "= 120414424;", "place 1 has the multiplier 120414423"),
     ("another number that is added", PRODUCTS, "= 1393439081;", "= 1393439082;", "place 3 has the multiplier 23517959"),
 ]
@@ -53,9 +71,9 @@ ORDER, CALENDAR, LABELS = "../crates.txt", "calendar/proofs/Records.antt", "labe
 THIRD = "pub third : Accepted 1 0 3 171 0 9 128\n\n"
 FIRST_CRATE, SECOND_CRATE = "day_table: refusal numbers constants\n", "calendar: refusal numbers constants day_table\n"
 FAULTS_OF_CLAIMS = [
-    ("a claim that no code names", LABELS, "-- what follows", THIRD + "-- what follows", "no file names place 8"),
-    ("such a claim before the last", LABELS, "pub tenth :", THIRD + "pub tenth :", "place 7 has the multiplier 171"),
-    ("a claim that is not listed", LABELS, "pub tenth :", "tenth :", "there is no place 7"),
+    ("a claim that no code names", LABELS, "-- what follows", THIRD + "-- what follows", "no file names place 10"),
+    ("such a claim before the last", LABELS, "pub thousandth :", THIRD + "pub thousandth :", "place 9 has the multiplier 171"),
+    ("a claim that is not listed", LABELS, "pub thousandth :", "thousandth :", "there is no place 9"),
     ("a bound that is one more", CALENDAR, "Accepted 1 0 100 167773 0 24 199799", "Accepted 1 0 100 167773 0 24 199800", None),
     ("crates in another order", ORDER, FIRST_CRATE + SECOND_CRATE, SECOND_CRATE + FIRST_CRATE, "place 0 has the multiplier"),
 ]
@@ -98,14 +116,12 @@ def differs(n, a, b, d, m, c, k, t):
     return abs((m * n + c >> k) - (a * n + b) // d) > t
 
 
-def check_scanned(place, claim):
-    """Tries the first n of a claim, its bound and the largest input of the code."""
+def check_ends(place, claim, largest):
+    """Tries the bound of a claim and the largest input of the code."""
     *constants, bound = claim
-    for n in range(min(bound, SCANNED)):
-        expect(not differs(n, *constants), f"the claim at place {place} has a difference at {n}")
     expect(differs(bound, *constants), f"the claim at place {place} has no difference at its bound")
-    expect(not differs(LARGEST[place], *constants), f"the claim at place {place} has a difference at the code's largest input")
-    expect(LARGEST[place] < bound, f"the code's largest input is not below the bound at place {place}")
+    expect(not differs(largest, *constants), f"the claim at place {place} has a difference at the code's largest input")
+    expect(largest < bound, f"the code's largest input is not below the bound at place {place}")
 
 
 def changed(claims, place, number, by):
@@ -171,7 +187,8 @@ def check_copies(programs, sheet):
 def main(*arguments):
     programs = Programs(*arguments)
     claims, sheet = claims_of(CRATES), (REPOSITORY / "constants.sheet").read_bytes()
-    expect(len(claims) == len(LARGEST), f"there are {len(claims)} claims, and {len(LARGEST)} largest inputs")
+    largest = largest_inputs()
+    expect(len(claims) == len(largest), f"there are {len(claims)} claims, and {len(largest)} largest inputs")
     proved = proved_claims()
     expect(sorted(claims) == proved, f"what is listed is not what is proved: {proved}")
     expect(programs.sheet_of(claims) == sheet, "constants.sheet is not what the claims make")
@@ -179,7 +196,7 @@ def main(*arguments):
     expect(programs.verdicts(sheet) == accepted, "check_sheet does not accept each claim")
     expect(programs.scanned(claims) == accepted, "a claim is not so when every n is tried")
     for place, claim in enumerate(claims):
-        check_scanned(place, claim)
+        check_ends(place, claim, largest[place])
     status, said = run([LIST_CONSTANTS, "--code", CRATES])
     expect(status == 0 and not said, f"the code: {said.decode()}")
     check_changed(programs, claims)
