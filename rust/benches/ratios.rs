@@ -63,7 +63,7 @@ fn main() {
     println!();
     constants_times();
     #[cfg(lengths)]
-    month_length_lines();
+    month_length_line();
 }
 
 /// Begins a table of lines.
@@ -634,45 +634,17 @@ fn transport_lines() {
 
 // The two ways to a month's length
 
-/// The calls that ask for a month's length, by bits and by the match.
+/// The call that asks for a month's length, by bits and by the match.
 #[cfg(lengths)]
-fn month_length_lines() {
+fn month_length_line() {
     let random = &mut Random::new(108);
-    let counts = some_counts(random);
-    let dates = dates_of(&counts);
-    let instants = numbers(random, INSTANTS);
-    let fields = fields_of(&instants.iter().map(|&instant| [instant]).collect::<Vec<_>>());
-    let by_match = "by the match";
+    let dates = dates_of(&some_counts(random));
     heading();
     line::<Two>(
         "month length, by bits",
         &Inputs::of(&months_of(&dates)),
         lengths::by_bits_ovenquill_last_day_of_month,
-        &[(by_match, lengths::by_match_ovenquill_last_day_of_month)],
-    );
-    line::<ThreeTo<i64>>(
-        "date to days, by bits",
-        &Inputs::of(&dates),
-        lengths::by_bits_ovenquill_days_from_civil,
-        &[(by_match, lengths::by_match_ovenquill_days_from_civil)],
-    );
-    line::<Three>(
-        "day of the year, by bits",
-        &Inputs::of(&dates),
-        lengths::by_bits_ovenquill_day_of_year,
-        &[(by_match, lengths::by_match_ovenquill_day_of_year)],
-    );
-    line::<FourTo<Date>>(
-        "shift a date, by bits",
-        &Inputs::of(&shifts_of(random, &counts, &dates)),
-        lengths::by_bits_ovenquill_add_days,
-        &[(by_match, lengths::by_match_ovenquill_add_days)],
-    );
-    line::<SevenTo<i64>>(
-        "join an instant, by bits",
-        &Inputs::of(&fields),
-        lengths::by_bits_ovenquill_join_instant,
-        &[(by_match, lengths::by_match_ovenquill_join_instant)],
+        &[("by the match", lengths::by_match_ovenquill_last_day_of_month)],
     );
 }
 

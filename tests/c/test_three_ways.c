@@ -34,19 +34,17 @@ static void same_date(const char *what, int64_t input, const ovenquill_date *got
     same(what, input, got->day, right[2]);
 }
 
-/* A count of the range: each way has the date of plain.h, and that of the first way. */
+/* A count of the range: the first way has the date of plain.h, and each other way has that of the way before it. */
 static void check_count(int64_t days)
 {
-    int64_t right[3], by_first[3];
+    int64_t right[3];
     size_t i;
     same("plain date", days, plain_civil_from_days(days, right), 0);
     for (i = 0; i < COUNT(ways); i++) {
         ovenquill_date date = {-1, -1, -1};
         same(ways[i].name, days, ways[i].date_of(days, &date), 0);
         same_date(ways[i].name, days, &date, right);
-        if (i == 0)
-            memcpy(by_first, &date, sizeof date);
-        same_date("as by the first way", days, &date, by_first);
+        memcpy(right, &date, sizeof date);
     }
 }
 

@@ -161,22 +161,24 @@ macro_rules! civil_from_days_by_divisions {
     ($name:ident, $number:ident) => {
         #[inline(never)]
         pub unsafe extern "C" fn $name(days: i64, date: *mut Date) -> i64 {
-            let answer = checked_count(days).map(|days| {
-                let n = (days + EPOCH) as $number;
-                let n_1 = 4 * n + 3;
-                let c = n_1 / 146097;
-                let n_c = n_1 % 146097 / 4;
-                let n_2 = 4 * n_c + 3;
-                let z = n_2 / 1461;
-                let n_y = n_2 % 1461 / 4;
-                let y = 100 * c + z;
-                let n_3 = 5 * n_y + 461;
-                let m = n_3 / 153;
-                let d = n_3 % 153 / 5;
-                let j = $number::from(m >= 13);
-                Date::new((y + j - 400) as i64 + FIRST_YEAR, (m - 12 * j) as i64, (d + 1) as i64)
-            });
-            to_place(date, answer)
+            if let Err(refusal) = checked_count(days) {
+                return -refusal;
+            }
+            let n = (days + EPOCH) as $number;
+            let n_1 = 4 * n + 3;
+            let c = n_1 / 146097;
+            let n_c = n_1 % 146097 / 4;
+            let n_2 = 4 * n_c + 3;
+            let z = n_2 / 1461;
+            let n_y = n_2 % 1461 / 4;
+            let y = 100 * c + z;
+            let n_3 = 5 * n_y + 461;
+            let m = n_3 / 153;
+            let d = n_3 % 153 / 5;
+            let j = n_y >= 306;
+            let month = if j { m - 12 } else { m };
+            date.write(Date::new(y as i64 + BASE_YEAR + j as i64, month as i64, (d + 1) as i64));
+            0
         }
     };
 }
