@@ -134,7 +134,7 @@ pub fn civil_from_days_plain(days: i64) -> Result<Date, Refusal> {
 ///
 /// Answers and refuses as [`civil_from_days`] does. Each call fills a table of the days on which the 400 years of a cycle and the
 /// year after them begin, by the leap rule alone, and looks for the year and then for the month of the day, so it is the one to
-/// follow by hand and to hold other calendars to. It takes some 200 times as long as [`civil_from_days`], needs about 1.7 KB of
+/// follow by hand and to hold other calendars to. It takes some 200 times as long as [`civil_from_days`], needs less than 2 KiB of
 /// stack and calls `memset`: a program that converts dates as it goes should take one of the other two.
 ///
 /// ```

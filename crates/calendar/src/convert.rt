@@ -1,5 +1,6 @@
-// The day of a date in unsigned arithmetic: source document 000, section 6, algorithm 4, in the paper's names. Years are counted from
-// BASE_YEAR, which is a multiple of 400, and run to toYear.
+// The day of a date in unsigned arithmetic: source document 000, section 6, algorithm 4, in the paper's names, with the century by a
+// product and with the table of document 01 for the months. Years are counted from BASE_YEAR, which is a multiple of 400, and run to
+// toYear.
 
 use super::products::HUNDREDTH;
 use super::year;
