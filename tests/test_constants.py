@@ -144,7 +144,7 @@ class Programs:
 
 
 def check_changed(programs, claims):
-    """Each claim with a bound one less, one more and a multiplier one more: it alone is not accepted."""
+    """Each claim with a bound or a multiplier one less and one more: it alone is not accepted."""
     for place, claim in enumerate(claims):
         right = [f"{at} accepted" for at in range(len(claims))]
         right[place] = f"{place} 11"
@@ -153,12 +153,13 @@ def check_changed(programs, claims):
         right[place] = f"{place} 10 {claim[BOUND]}"
         higher = programs.verdicts(programs.sheet_of(changed(claims, place, BOUND, 1)))
         expect(higher == right, f"a bound one more at place {place}: {higher}")
-        other = changed(claims, place, MULTIPLIER, 1)
-        [scanned] = programs.scanned([other[place]])
-        right[place] = f"{place} {scanned.removeprefix('0 ')}"
-        expect(right[place].startswith(f"{place} 10 "), f"a multiplier one more at place {place}: {right[place]}")
-        more = programs.verdicts(programs.sheet_of(other))
-        expect(more == right, f"a multiplier one more at place {place}: {more}")
+        for by in (-1, 1):
+            other = changed(claims, place, MULTIPLIER, by)
+            [scanned] = programs.scanned([other[place]])
+            right[place] = f"{place} {scanned.removeprefix('0 ')}"
+            expect(right[place].startswith(f"{place} 10 "), f"a multiplier changed by {by} at place {place}: {right[place]}")
+            verdicts = programs.verdicts(programs.sheet_of(other))
+            expect(verdicts == right, f"a multiplier changed by {by} at place {place}: {verdicts}")
 
 
 def check_removed(programs, claims, sheet):
@@ -202,7 +203,7 @@ def main(*arguments):
     check_changed(programs, claims)
     check_removed(programs, claims, sheet)
     check_copies(programs, sheet)
-    print(f"constants: {len(claims)} claims ok, {4 * len(claims) + len(FAULTS_OF_CODE) + len(FAULTS_OF_CLAIMS)} faults tried")
+    print(f"constants: {len(claims)} claims ok, {5 * len(claims) + len(FAULTS_OF_CODE) + len(FAULTS_OF_CLAIMS)} faults tried")
 
 
 main(*sys.argv[1:])

@@ -6,6 +6,10 @@ use Rattle.calendar.proofs.DateByProducts.{year-added, date-is}
 use Rattle.calendar.proofs.fast.date_after.Statement.{statement}
 use Rattle.calendar.proofs.fast.date_after.Tie as tie
 
+-- the day lies below the bounds of the records
+regular-requires : tie.Need-regular-requires
+regular-requires c κs = search needs
+
 add-t6 : tie.Need-add-t6
 add-t6 c =
     let r = c .before .before in
@@ -24,7 +28,7 @@ date-after-spec =
     tie.close
     (tie.spec
     (λ c. search needs)
-    (λ c κs. search needs)
+    regular-requires
     (λ c κs. search needs)
     (λ c κs. search needs)
     (λ c. search needs)

@@ -9,42 +9,6 @@ use borrow.Author.Needs.{needs}
 use Rattle.calendar.proofs.plain.date_after.Statement.{statement}
 use Rattle.calendar.proofs.plain.date_after.Tie as tie
 
-add-n-0 : tie.Need-add-n-0
-add-n-0 c = search needs
-
-mul-c : tie.Need-mul-c
-mul-c c = search needs
-
-add-c : tie.Need-add-c
-add-c c = search needs
-
-add-regular : tie.Need-add-regular
-add-regular c = search needs
-
-sub-regular : tie.Need-sub-regular
-sub-regular c = search needs
-
-mul-y : tie.Need-mul-y
-mul-y c = search needs
-
-add-y : tie.Need-add-y
-add-y c = search needs
-
-mul-n-y : tie.Need-mul-n-y
-mul-n-y c = search needs
-
-sub-n-y : tie.Need-sub-n-y
-sub-n-y c = search needs
-
-mul-m : tie.Need-mul-m
-mul-m c = search needs
-
-add-m : tie.Need-add-m
-add-m c = search needs
-
-cast-j : tie.Need-cast-j
-cast-j c = search needs
-
 add-t9 : tie.Need-add-t9
 add-t9 c = record { fits = year-fits (c .args .n) (c .pre) }
 
@@ -60,21 +24,6 @@ mul-t10 c = record { fits = omega (arith, new-year-le (c .args .n) (c .pre)) }
 sub-t14 : tie.Need-sub-t14
 sub-t14 c = new-year (marchDay (c .args .n)) .1
 
-cast-t15 : tie.Need-cast-t15
-cast-t15 c = search needs
-
-add-t16 : tie.Need-add-t16
-add-t16 c = search needs
-
-days-from-march-requires : tie.Need-days-from-march-requires
-days-from-march-requires c κs = search needs
-
-sub-t18 : tie.Need-sub-t18
-sub-t18 c = search needs
-
-cast-t19 : tie.Need-cast-t19
-cast-t19 c = search needs
-
 -- the day of the month, counted from 1
 day-from-one : (k : ℕ) → k + 1 - fromMarch ((5 * k + 461) / 153) ≡ (5 * k + 461) % 153 / 5 + 1
 day-from-one k = omega arith
@@ -89,26 +38,26 @@ pub date-after-spec : {M : Type 1} → statement M
 date-after-spec =
     tie.close
     (tie.spec
-    add-n-0
-    mul-c
-    add-c
-    add-regular
-    sub-regular
-    mul-y
-    add-y
-    mul-n-y
-    sub-n-y
-    mul-m
-    add-m
-    cast-j
+    (λ c. search needs)
+    (λ c. search needs)
+    (λ c. search needs)
+    (λ c. search needs)
+    (λ c. search needs)
+    (λ c. search needs)
+    (λ c. search needs)
+    (λ c. search needs)
+    (λ c. search needs)
+    (λ c. search needs)
+    (λ c. search needs)
+    (λ c. search needs)
     add-t9
     cast-t12
     add-t13
     mul-t10
     sub-t14
-    cast-t15
-    add-t16
-    days-from-march-requires
-    sub-t18
-    cast-t19
+    (λ c. search needs)
+    (λ c. search needs)
+    (λ c κs. search needs)
+    (λ c. search needs)
+    (λ c. search needs)
     returns)
