@@ -12,6 +12,8 @@
 // divisions, by a table of the years of a cycle, and by products and a table of the days of a year. The module `range` has the first and
 // last year and count, `base` the year and the count that code counts from, `products` the multipliers.
 
+#![tactic(auto)]
+
 use base::{BASE_COUNT, BASE_YEAR, FIRST_AFTER_MONDAY};
 use day_test::has_day;
 use length_by_bits::month_length;

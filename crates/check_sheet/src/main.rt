@@ -1,6 +1,8 @@
 // Reads a sheet of claims from standard input to its end and prints the verdict of each record, a line each; `17` for what is no
 // sheet. A failed read or write is told on standard error, as a program has no exit status of its own.
 
+#![tactic(auto)]
+
 ghost use Rattle.std.specs.Prelude.{◌≤◌, length};
 
 use refusal::WriteAnswer;

@@ -4,6 +4,8 @@
 //     first_difference(a, b, d, m, c, k, t, end)        the least such n below `end`, or none        refusal 9
 //     check_bound(a, b, d, m, c, k, t, bound)           accepted, if `bound` is the least            refusals 9, then 10 with the least n, or 11
 
+#![tactic(auto)]
+
 use limits::Tested;
 use refusal::Refusal;
 

@@ -2,6 +2,8 @@
 // an independent program (tools/dates.py): a line for each month, and for each of the two days the year, month and day of its count,
 // the count, and the weekday. Thirteen is prime to 400, so every year of a cycle of 400 comes up.
 
+#![tactic(auto)]
+
 use calendar::DateAnswer;
 use calendar::range::{FIRST_YEAR, LAST_YEAR};
 use refusal::NumberAnswer;

@@ -4,6 +4,8 @@
 //     month(k), day(k)        by a product
 //     month_and_day(k)        256 * month + day, from a table that tools/make_day_table makes
 
+#![tactic(auto)]
+
 mod table;
 
 ghost use Rattle.std.specs.Prelude.{◌≡◌, get_or};

@@ -7,6 +7,8 @@
 //
 // The module `units` has the units of an instant and its range.
 
+#![tactic(auto)]
+
 use calendar::DateAnswer;
 use refusal::{NumberAnswer, Refusal};
 use units::{FIRST_INSTANT, LAST_INSTANT, PER_DAY};

@@ -11,6 +11,8 @@
 //
 // `rfc3339::LENGTH` is the number of bytes of an instant's label, `iso_week::LENGTH` that of a week's.
 
+#![tactic(auto)]
+
 use refusal::{NumberAnswer, Refusal};
 
 mod buffer;

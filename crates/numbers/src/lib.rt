@@ -4,6 +4,8 @@
 //     outside(first, last, x)                  whether x lies outside first..last, both ends included
 //     first_place(first, last, wanted, list)   the first place whose number lies outside, or not, or the length
 
+#![tactic(auto)]
+
 ghost use Rattle.std.specs.Prelude.{◌≡◌, ◌≤◌, length};
 ghost use Rattle.numbers.specs.Range as range;
 

@@ -34,6 +34,8 @@
 //     ovenquill_follow(clock, value)                                          the milliseconds, and the clock goes on from there
 //     ovenquill_follow_all(clock, values)                                     how many were passed over, and the clock after them
 
+#![tactic(auto)]
+
 ghost use Rattle.std.specs.Prelude.{◌≡◌, pos};
 ghost use Rattle.refusal.specs.Outcome.{value, after_call};
 ghost use Rattle.calendar.specs.Answers.{days_answer, civil_answer, weekday_answer, leap_answer, last_day_answer, day_of_year_answer, add_days_answer};

@@ -3,6 +3,8 @@
 //
 //     number(refusal)        its number, 1 to 17
 
+#![tactic(auto)]
+
 ghost use Rattle.std.specs.Prelude.{◌≡◌};
 ghost use Rattle.refusal.specs.Numbers.{refusal_number};
 

@@ -9,6 +9,8 @@
 //
 // `REPORT_MOST` is the number of bytes of the longest report.
 
+#![tactic(auto)]
+
 use constants::ClaimAnswer;
 use refusal::{Refusal, WriteAnswer};
 

@@ -6,6 +6,8 @@
 //     number_length(n)            how many digits that has
 //     four_bytes(a, b, c, d)      the number of four bytes, the lowest first
 
+#![tactic(auto)]
+
 ghost use Rattle.std.specs.Prelude.{◌≡◌, ◌+◌, ◌≤◌, [], ◌∷◌, leb, length};
 ghost use Rattle.text.specs.Decimal.{digits, decimal};
 ghost use Rattle.text.specs.Words.{word, part_of};

@@ -5,6 +5,8 @@
 //
 // A clock that begins anew knows nothing of earlier wraps: it takes its first value as it is.
 
+#![tactic(auto)]
+
 use refusal::Refusal;
 use steps::{HALF, LAST_POSITION, LAST_VALUE, WRAP};
 

@@ -4,6 +4,8 @@
 //     week_from_days(days)                       week year, week, weekday        refusal 4
 //     days_from_week(year, week, weekday)        day count                       refusals 1, 16, then 4
 
+#![tactic(auto)]
+
 use base::{BASE_COUNT, BASE_YEAR, FIRST_WEEK_YEAR, LAST_WEEK_YEAR};
 use calendar::range::{FIRST_COUNT, LAST_COUNT};
 use refusal::{NumberAnswer, Refusal};

@@ -1,6 +1,8 @@
 // Document 01, "Numbers to try", and rows for what document 02 adds: each row is run, and what is printed is held to the file stdout.
 // The starred rows and some others are theorems besides, in proofs/Table.antt.
 
+#![tactic(auto)]
+
 mod calendar_rows;
 mod clock_rows;
 mod constants_rows;
