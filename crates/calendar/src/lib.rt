@@ -43,20 +43,20 @@ ghost use Rattle.calendar.specs.Answers.{date_outcome, flag_outcome, leap_answer
 ghost use Rattle.calendar.specs.Closed.{from_year, to_year, base_year, last_day};
 ghost use Rattle.calendar.specs.Checked.{checked_outcome, CheckedInRange};
 
-#[derive(Drop)]
+#[derive(Clone, Copy)]
 pub struct Date {
     pub year: i64,
     pub month: i64,
     pub day: i64,
 }
 
-#[derive(Drop)]
+#[derive(Clone, Copy)]
 pub enum DateAnswer {
     Value(Date),
     Refused(Refusal),
 }
 
-#[derive(Drop)]
+#[derive(Clone, Copy)]
 pub enum FlagAnswer {
     Value(bool),
     Refused(Refusal),
@@ -142,7 +142,7 @@ pub fn add_days(year: i64, month: i64, day: i64, days: i64) -> DateAnswer
 }
 
 // A tested date, its year counted from BASE_YEAR.
-#[derive(Drop)]
+#[derive(Clone, Copy)]
 enum Checked {
     Accepted(u64, u64, u64),
     Refused(Refusal),

@@ -18,7 +18,7 @@ mod stairs;
 ghost use Rattle.std.specs.Prelude.{◌≡◌};
 ghost use Rattle.constants.specs.Answers.{difference_answer, bound_answer, search_outcome, claim_outcome};
 
-#[derive(Drop)]
+#[derive(Clone, Copy)]
 pub enum SearchAnswer {
     // the least n below the end with a difference
     At(u64),
@@ -28,7 +28,7 @@ pub enum SearchAnswer {
     Refused(Refusal),
 }
 
-#[derive(Drop)]
+#[derive(Clone, Copy)]
 pub enum ClaimAnswer {
     // the least difference is at the bound
     Accepted,

@@ -27,7 +27,7 @@ pub const END_LAST: i64 = 4294967295;
 pub const BOUND_LAST: i64 = 4294967294;
 
 // A set of constants: (a*n + b) / d is to be (m*n + c) >> k, within t.
-#[derive(Drop)]
+#[derive(Clone, Copy)]
 pub struct Constants {
     pub a: u64,
     pub b: u64,
@@ -38,7 +38,7 @@ pub struct Constants {
     pub t: u64,
 }
 
-#[derive(Drop)]
+#[derive(Clone, Copy)]
 pub enum Tested {
     Inside(Constants, u64),
     Outside,

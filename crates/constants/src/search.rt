@@ -11,7 +11,7 @@ use crate::{plain, stairs};
 
 // A side of the difference. Above the exact quotient, the gap at the residue x is what need + power*((a*x + rest) / d) is above
 // have + m*x; below it, the two products change places.
-#[derive(Drop)]
+#[derive(Clone, Copy)]
 struct Side {
     above: bool,
     a: u64,

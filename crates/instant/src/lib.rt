@@ -22,7 +22,7 @@ ghost use Rattle.std.specs.Prelude.{◌≡◌};
 ghost use Rattle.refusal.specs.Outcome.{number_outcome};
 ghost use Rattle.instant.specs.Answers.{fields_outcome, index_outcome, day_answer, split_answer, join_answer, index_days_answer, index_days};
 
-#[derive(Drop)]
+#[derive(Clone, Copy)]
 pub struct Fields {
     pub year: i64,
     pub month: i64,
@@ -33,13 +33,13 @@ pub struct Fields {
     pub millisecond: i64,
 }
 
-#[derive(Drop)]
+#[derive(Clone, Copy)]
 pub enum FieldsAnswer {
     Value(Fields),
     Refused(Refusal),
 }
 
-#[derive(Drop)]
+#[derive(Clone, Copy)]
 pub enum IndexAnswer {
     Written(usize),
     Refused(Refusal),

@@ -49,7 +49,7 @@ pub fn three_pairs(a: u32, first: u8, b: u32, second: u8, c: u32) -> u64
     256 * pairs - 2559 * tens + (marks + 0x3030_0030_3000_3030)
 }
 
-#[derive(Drop)]
+#[derive(Clone, Copy)]
 pub enum Values {
     Read(u64, u64),
     Malformed,

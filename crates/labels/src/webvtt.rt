@@ -14,13 +14,13 @@ use crate::{cue, long_position, short_position, timestamp};
 use refusal::{NumberAnswer, Refusal, WriteAnswer};
 
 // The start and the end of a cue, in milliseconds.
-#[derive(Drop)]
+#[derive(Clone, Copy)]
 pub struct Cue {
     pub start: i64,
     pub end: i64,
 }
 
-#[derive(Drop)]
+#[derive(Clone, Copy)]
 pub enum CueAnswer {
     Value(Cue),
     Refused(Refusal),

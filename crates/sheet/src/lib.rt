@@ -38,13 +38,13 @@ const RECORD_LENGTH: usize = 4 * NUMBERS_EACH;
 const TRAILER_LENGTH: usize = 12;
 
 // What a sheet holds: how many records, and where the first of them begins, which is the length of the note.
-#[derive(Drop)]
+#[derive(Clone, Copy)]
 pub struct Contents {
     pub records: usize,
     pub offset: usize,
 }
 
-#[derive(Drop)]
+#[derive(Clone, Copy)]
 pub enum ReadAnswer {
     Value(Contents),
     // 17
@@ -52,7 +52,7 @@ pub enum ReadAnswer {
 }
 
 // The eight numbers of a record.
-#[derive(Drop)]
+#[derive(Clone, Copy)]
 pub struct Claim {
     pub a: u32,
     pub b: u32,
@@ -64,7 +64,7 @@ pub struct Claim {
     pub bound: u32,
 }
 
-#[derive(Drop)]
+#[derive(Clone, Copy)]
 pub enum RecordAnswer {
     Value(Claim),
     // 17

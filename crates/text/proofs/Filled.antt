@@ -114,14 +114,14 @@ module _ (at : ℕ) (text before : List ℕ) {count : ℕ} (same : count ≡ len
   room_is : room ≡ has_room at text before
   room_is = has ∙ ap (λ k. leb (at + k) (length before)) same
 
-  pub room_le : not room ≡ false → at + count ≤ length before
-  room_le e = leb-true (at + count) (length before) (sym has ∙ not-false room e)
+  pub room_le : room ≡ true → at + count ≤ length before
+  room_le e = leb-true (at + count) (length before) (sym has ∙ e)
 
-  pub not_put : not room ≡ true → Puts at text before before at
-  not_put e = let h = sym room_is ∙ not-true room e in (rw h, rw h)
+  pub not_put : room ≡ false → Puts at text before before at
+  not_put e = let h = sym room_is ∙ e in (rw h, rw h)
 
-  pub all_put : {after : List ℕ} → not room ≡ false → after ≡ filled at text before → Puts at text before after (at + count)
-  all_put e f = let h = sym room_is ∙ not-false room e in (rw h (ap (λ k. at + k) same), rw h f)
+  pub all_put : {after : List ℕ} → room ≡ true → after ≡ filled at text before → Puts at text before after (at + count)
+  all_put e f = let h = sym room_is ∙ e in (rw h (ap (λ k. at + k) same), rw h f)
 
 -- a piece that is known to have room, put into a buffer
 pub put_stored :

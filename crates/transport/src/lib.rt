@@ -18,7 +18,7 @@ ghost use Rattle.transport.specs.Wraps.{wrap, position_at};
 ghost use Rattle.transport.specs.Answers.{position_outcome, follow_answer, clock_after, follow_all_answer};
 ghost use Rattle.transport.specs.declared.Clock.TheVariants.{At};
 
-#[derive(Drop)]
+#[derive(Clone, Copy)]
 pub enum Clock {
     // nothing heard yet
     Nothing,
@@ -26,25 +26,25 @@ pub enum Clock {
     At(i64),
 }
 
-#[derive(Drop)]
+#[derive(Clone, Copy)]
 pub struct Position {
     pub ticks: i64,
     pub milliseconds: i64,
 }
 
-#[derive(Drop)]
+#[derive(Clone, Copy)]
 pub enum PositionAnswer {
     Value(Position),
     Refused(Refusal),
 }
 
-#[derive(Drop)]
+#[derive(Clone, Copy)]
 pub struct Followed {
     pub clock: Clock,
     pub answer: PositionAnswer,
 }
 
-#[derive(Drop)]
+#[derive(Clone, Copy)]
 pub struct Batch {
     pub clock: Clock,
     // how many values were passed over

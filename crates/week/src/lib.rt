@@ -23,14 +23,14 @@ ghost use Rattle.week.specs.Week.{week_date_of};
 ghost use Rattle.week.specs.Answers.{week_outcome, week_answer, first_week_year, last_week_year, week_days_answer};
 ghost use Rattle.week.specs.Closed.{base_year, base_count, from_year, to_year, to_day};
 
-#[derive(Drop)]
+#[derive(Clone, Copy)]
 pub struct WeekDate {
     pub year: i64,
     pub week: i64,
     pub weekday: i64,
 }
 
-#[derive(Drop)]
+#[derive(Clone, Copy)]
 pub enum WeekAnswer {
     Value(WeekDate),
     Refused(Refusal),

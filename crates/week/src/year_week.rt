@@ -6,7 +6,7 @@ ghost use Rattle.week.specs.Closed.{to_day, first_day, InYear};
 
 use calendar::products::{CENTURY, YEAR};
 
-#[derive(Drop)]
+#[derive(Clone, Copy)]
 pub struct YearWeek {
     pub year: u64,
     pub week: u64,

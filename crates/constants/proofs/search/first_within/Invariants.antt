@@ -1,0 +1,13 @@
+use Prim.Native.Nat.{◌+◌, ◌-◌, ◌≤◌, ◌<◌}
+use mathlib.Core.Path.{◌≡◌}
+use native.Mathlib.Omega.{arith}
+use Rattle.constants.specs.Residues.{SomeGap}
+use Rattle.constants.proofs.Gaps.{some_within, none_within, least_residue}
+use Rattle.constants.proofs.search.first_within.Given as goal
+
+abbrev pub invariant-loop-low : goal.invariant-loop-low
+invariant-loop-low l =
+    (l.high ≤ l.end) × (l.low < l.high) × (SomeGap l.s l.low l.bound → ⊥) × SomeGap l.s l.high l.bound
+
+abbrev pub decreases-loop-low : goal.decreases-loop-low
+decreases-loop-low l = l.high - l.low

@@ -1,0 +1,15 @@
+use Prim.Native.Nat.{suc, ◌+◌, ◌-◌, ◌/◌, ◌^◌, ◌≤◌}
+use mathlib.Core.Path.{◌≡◌, refl, sym, ap, ap₂, ◌∙◌}
+use native.Mathlib.Omega.{arith}
+use lib.ListN.{length}
+use Rattle.text.specs.Decimal.{digits}
+use Rattle.text.specs.Filled.{filled}
+use Rattle.text.proofs.Filled.{filled_length, filled_nothing}
+use Rattle.text.proofs.Decimal.{digit_stored, less_tens}
+use Rattle.text.proofs.store_digits.Given as goal
+
+abbrev pub invariant-loop-i : goal.invariant-loop-i
+invariant-loop-i l = (l.i ≤ l.count) × ((l.rest ≡ l.n / 10 ^ (l.count - l.i)) × ((length l.out ≡ length l.initial.out) × (l.out ≡ filled (l.at + l.i) (digits l.n (l.count - l.i)) l.initial.out)))
+
+abbrev pub decreases-loop-i : goal.decreases-loop-i
+decreases-loop-i l = l.i
