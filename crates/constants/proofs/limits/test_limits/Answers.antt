@@ -7,6 +7,8 @@ use Rattle.numbers.proofs.Between.{cast_within}
 use Rattle.constants.specs.Limits.{outside_limits, AllWithin}
 use Rattle.constants.proofs.Signed.{constants_in, end_in, all_passed}
 use Rattle.constants.proofs.limits.test_limits.Tie as tie
+use Rattle.constants.proofs.limits.test_limits.Lts as lts
+use Rattle.constants.proofs.limits.test_limits.Reads as reads
 use Rattle.constants.proofs.limits.test_limits.Goals as goal
 
 pub outside_limits-requires : goal.outside_limits-requires
@@ -16,7 +18,7 @@ pub outside-requires : goal.outside-requires
 outside-requires c = tt
 
 -- the test, of the numbers themselves
-module _ (c : tie.After-outside) where
+module _ (c : lts.After-outside tie.the-claims reads.Pre reads.Post) where
   abbrev s : goal.Start
   s = c.before.before
 

@@ -7,14 +7,16 @@ use Rattle.constants.proofs.Arithmetic.{one_shifted}
 use Rattle.constants.proofs.Bounds.{device_period, exact_period, sides_narrow}
 use Rattle.constants.proofs.Difference.{pull, gain_of, either_side}
 use Rattle.constants.proofs.search.least_difference.Tie as tie
+use Rattle.constants.proofs.search.least_difference.Lts as lts
+use Rattle.constants.proofs.search.least_difference.Reads as reads
 use Rattle.constants.proofs.search.least_difference.Goals as goal
 
 -- The least on either side.
 -- the shifted 1
-power_is : (s : tie.Start) → 1 * 2 ^ s.args.q.k % 2 ^ 64 ≡ 2 ^ s.args.q.k
+power_is : (s : lts.Start tie.the-claims reads.Pre reads.Post) → 1 * 2 ^ s.args.q.k % 2 ^ 64 ≡ 2 ^ s.args.q.k
 power_is s = one_shifted s.args.q.k (omega (arith, s.requires.0.k_hi))
 
-exact_is : (s : tie.Start) → s.args.q.a * (1 * 2 ^ s.args.q.k % 2 ^ 64) ≡ s.args.q.a * 2 ^ s.args.q.k
+exact_is : (s : lts.Start tie.the-claims reads.Pre reads.Post) → s.args.q.a * (1 * 2 ^ s.args.q.k % 2 ^ 64) ≡ s.args.q.a * 2 ^ s.args.q.k
 exact_is s = ap (λ (p : ℕ). s.args.q.a * p) (power_is s)
 
 pub overflow_mul-device : goal.overflow_mul-device

@@ -7,11 +7,13 @@ use native.Mathlib.Omega.{arith}
 use borrow.Author.Rules.{rules}
 use Rattle.constants.specs.Limits.{last_b, last_k, last_t}
 use Rattle.constants.proofs.Bounds.{power_le, first_le, above_hi}
-use Rattle.constants.proofs.search.side_of.Tie as tie
+use Rattle.constants.proofs.search.side_of.Lts as lts
+use Rattle.constants.proofs.search.side_of.Reads as reads
 use Rattle.constants.proofs.search.side_of.Goals as goal
+use Rattle.constants.proofs.search.side_of.Goals.{then-above, else-above, then-above-2, else-above-2}
 
 -- the power, and the largest of the sums and products
-module _ (s : tie.Start) where
+module _ (s : lts.Start reads.Pre reads.Post) where
   power_hi : s.args.power ≤ 2 ^ last_k
   power_hi = rw s.requires.1 (power_le s.requires.0)
 
@@ -48,7 +50,7 @@ returns c =
     let q = s.args.q in
     let p = s.args.power in
     let need-is : c.if-above.need ≡ cond s.args.above ((q.b / q.d + q.t + 1) * p) (q.c + q.t * p + 1) =
-    ⊎_elim (λ w. rw w.0.taken w.2) (λ w. rw w.0.left w.3) c.if-above.branch in
+    elim c.if-above.branch [ then-above w ↦ rw w.if-above.true w.need-is | else-above w ↦ rw w.if-above.false w.need-is ] in
     let have-is : c.if-above-2.have ≡ cond s.args.above q.c (q.b / q.d * p) =
-    ⊎_elim (λ w. rw w.0.taken w.1) (λ w. rw w.0.left w.1) c.if-above-2.branch in
+    elim c.if-above-2.branch [ then-above-2 w ↦ rw w.if-above-2.true w.have-is | else-above-2 w ↦ rw w.if-above-2.false w.have-is ] in
     rw (need-is, have-is, s.requires.1)
