@@ -10,36 +10,38 @@ use denote.Triple.Entry.{Args}
 use denote.Triple.Spec.{Meets}
 use seplogic.Ra.Ura.{Ura}
 use prog.Model.{Model}
+use prog.Wired.{Wired}
 use Rattle.refusal.specs.Outcome.{Outcome}
 use Rattle.calendar.specs.declared.Date.{Date}
 use Rattle.calendar.specs.declared.DateAnswer.{DateAnswer}
 use Rattle.calendar.specs.Answers.{date_outcome, civil_answer}
 use Rattle.calendar.specs.contracts.civil_from_days as fast
-use Rattle.calendar.proofs.civil_from_days.Met as fast-met
-use Rattle.calendar.proofs.civil_from_days.Symbol as fast-symbol
+use Rattle.calendar.proofs.civil_from_days.Met as fast_met
+use Rattle.calendar.proofs.civil_from_days.Symbol as fast_symbol
 use Rattle.calendar.specs.contracts.plain.civil_from_days as plain
-use Rattle.calendar.proofs.plain.civil_from_days.Met as plain-met
-use Rattle.calendar.proofs.plain.civil_from_days.Symbol as plain-symbol
+use Rattle.calendar.proofs.plain.civil_from_days.Met as plain_met
+use Rattle.calendar.proofs.plain.civil_from_days.Symbol as plain_symbol
 use Rattle.calendar.specs.contracts.audit.civil_from_days as audit
-use Rattle.calendar.proofs.audit.civil_from_days.Met as audit-met
-use Rattle.calendar.proofs.audit.civil_from_days.Symbol as audit-symbol
+use Rattle.calendar.proofs.audit.civil_from_days.Met as audit_met
+use Rattle.calendar.proofs.audit.civil_from_days.Symbol as audit_symbol
 use Rattle.calendar.specs.contracts.month_table.civil_from_days as table
-use Rattle.calendar.proofs.month_table.civil_from_days.Met as table-met
-use Rattle.calendar.proofs.month_table.civil_from_days.Symbol as table-symbol
+use Rattle.calendar.proofs.month_table.civil_from_days.Met as table_met
+use Rattle.calendar.proofs.month_table.civil_from_days.Symbol as table_symbol
 
-module _ {M : Type 1} {𝓤 : Ura M} (𝓛 : Logic 𝓤) (𝓜 : Model 𝓤 𝓛.H) (𝓡 : Running 𝓤 𝓛.H 𝓜) where
+module _ {M : Type 1} {𝓤 : Ura M} (𝓛 : Logic 𝓤) (𝓜 : Model 𝓤 𝓛.H) (𝓡 : Running 𝓤 𝓛.H 𝓜)
+    (fast_wired : Wired 𝓡.env fast_symbol.code) (plain_wired : Wired 𝓡.env plain_symbol.code) (audit_wired : Wired 𝓡.env audit_symbol.code) (table_wired : Wired 𝓡.env table_symbol.code) where
   -- what the `ensures` of each says of its answer to a count
   abbrev fast_says : Args fast.signature tt → AtExit fast.ended tt → DateAnswer → SProp 𝓤
-  fast_says given end answer = (fast.clauses 𝓛 𝓜.mem 𝓡.run tt given).ensures tt answer end
+  fast_says given end answer = (fast.clauses 𝓛 𝓜.mem 𝓡.returns tt given).ensures tt answer end
 
   abbrev plain_says : Args plain.signature tt → AtExit plain.ended tt → DateAnswer → SProp 𝓤
-  plain_says given end answer = (plain.clauses 𝓛 𝓜.mem 𝓡.run tt given).ensures tt answer end
+  plain_says given end answer = (plain.clauses 𝓛 𝓜.mem 𝓡.returns tt given).ensures tt answer end
 
   abbrev audit_says : Args audit.signature tt → AtExit audit.ended tt → DateAnswer → SProp 𝓤
-  audit_says given end answer = (audit.clauses 𝓛 𝓜.mem 𝓡.run tt given).ensures tt answer end
+  audit_says given end answer = (audit.clauses 𝓛 𝓜.mem 𝓡.returns tt given).ensures tt answer end
 
   abbrev table_says : Args table.signature tt → AtExit table.ended tt → DateAnswer → SProp 𝓤
-  table_says given end answer = (table.clauses 𝓛 𝓜.mem 𝓡.run tt given).ensures tt answer end
+  table_says given end answer = (table.clauses 𝓛 𝓜.mem 𝓡.returns tt given).ensures tt answer end
 
   -- two answers that are each the one that is defined
   same : (answer r s : Outcome Date) → ent 𝓤 (conj 𝓤 (fact 𝓤 (r ≡ answer)) (fact 𝓤 (s ≡ answer))) (fact 𝓤 (r ≡ s))
@@ -62,18 +64,18 @@ module _ {M : Type 1} {𝓤 : Ura M} (𝓛 : Logic 𝓤) (𝓜 : Model 𝓤 𝓛
     pub table_same :
         (given : Args fast.signature tt) (end : AtExit fast.ended tt) (r s : DateAnswer) →
         ent 𝓤 (conj 𝓤 (fast_says given end r) (table_says given end s)) (fact 𝓤 (date_outcome r ≡ date_outcome s))
-    pub fast_meets : Meets 𝓛 fast.signature (𝓡.run fast-symbol.routine) (plain.spec 𝓛 𝓜.mem 𝓡.run)
-    pub plain_meets : Meets 𝓛 plain.signature (𝓡.run plain-symbol.routine) (fast.spec 𝓛 𝓜.mem 𝓡.run)
-    pub audit_meets : Meets 𝓛 audit.signature (𝓡.run audit-symbol.routine) (fast.spec 𝓛 𝓜.mem 𝓡.run)
-    pub table_meets : Meets 𝓛 table.signature (𝓡.run table-symbol.routine) (fast.spec 𝓛 𝓜.mem 𝓡.run)
+    pub fast_meets : Meets 𝓛 fast.signature (𝓡.run (𝓡.env fast_symbol.name)) (plain.spec 𝓛 𝓜.mem 𝓡.returns)
+    pub plain_meets : Meets 𝓛 plain.signature (𝓡.run (𝓡.env plain_symbol.name)) (fast.spec 𝓛 𝓜.mem 𝓡.returns)
+    pub audit_meets : Meets 𝓛 audit.signature (𝓡.run (𝓡.env audit_symbol.name)) (fast.spec 𝓛 𝓜.mem 𝓡.returns)
+    pub table_meets : Meets 𝓛 table.signature (𝓡.run (𝓡.env table_symbol.name)) (fast.spec 𝓛 𝓜.mem 𝓡.returns)
 
   pub all_ways : Equal
   all_ways = record {
     plain_same = λ given end r s. same (civil_answer given.0) (date_outcome r) (date_outcome s);
     audit_same = λ given end r s. same (civil_answer given.0) (date_outcome r) (date_outcome s);
     table_same = λ given end r s. same (civil_answer given.0) (date_outcome r) (date_outcome s);
-    fast_meets = fast-met.met 𝓤 𝓛 𝓜 𝓡;
-    plain_meets = plain-met.met 𝓤 𝓛 𝓜 𝓡;
-    audit_meets = audit-met.met 𝓤 𝓛 𝓜 𝓡;
-    table_meets = table-met.met 𝓤 𝓛 𝓜 𝓡;
+    fast_meets = fast_met.met 𝓤 𝓛 𝓜 𝓡 fast_wired;
+    plain_meets = plain_met.met 𝓤 𝓛 𝓜 𝓡 plain_wired;
+    audit_meets = audit_met.met 𝓤 𝓛 𝓜 𝓡 audit_wired;
+    table_meets = table_met.met 𝓤 𝓛 𝓜 𝓡 table_wired;
   }
