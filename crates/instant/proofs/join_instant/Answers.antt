@@ -49,13 +49,13 @@ pub returns-in-Value-check_time : goal.returns-in-Value-check_time
 returns-in-Value-check_time c = answers (both c)
 
 pub returns-in-Refused-check_time : goal.returns-in-Refused-check_time
-returns-in-Refused-check_time c = let k = c.before in
+returns-in-Refused-check_time c = let k = (goal.at.returns-in-Refused-check_time c).After-check_time in
     let a = (start k).args in
     time_decided a.hour a.minute a.second a.millisecond a.year a.month a.day _ (days_of k) (refusal_number c.in-Refused-check_time.r)
     (ap number_outcome (sym c.in-Refused-check_time.is) ∙ time_of_lem k)
 
 pub returns-in-Refused : goal.returns-in-Refused
-returns-in-Refused c = let k = c.before in
+returns-in-Refused c = let k = (goal.at.returns-in-Refused c).After-days_from_civil in
     let a = k.args in
     date_decided a.hour a.minute a.second a.millisecond a.year a.month a.day (refusal_number c.in-Refused.of_date)
     (ap number_outcome (sym c.in-Refused.is) ∙ days_answer_lem k)

@@ -50,11 +50,11 @@ fields_at-requires c = let s = c.before.before.before.before.before.before in
 
 pub returns-in-Value : goal.returns-in-Value
 unfolding split_answer fields_of
-returns-in-Value c = let t = c.before in
-    let k = t.before.before in
+returns-in-Value c = let t = (goal.at.returns-in-Value c).After-time in
+    let k = (goal.at.returns-in-Value c).After-civil_from_days in
     let e : value t.in-Value.date ≡ value (date_of_count (day_of k.args.instant)) = ap date_outcome (sym t.in-Value.is) ∙ date_is k in
     let d : t.in-Value.date ≡ date_of_count (day_of k.args.instant) = cc in
-    rw (inside k.before) (ap value (c.fields_at.ensures ∙ ap₂ fields_at d (ap nat_abs (time_is t))))
+    rw (inside (goal.at.returns-in-Value c).After-day) (ap value (c.fields_at.ensures ∙ ap₂ fields_at d (ap nat_abs (time_is t))))
 
 pub returns-in-Refused : goal.returns-in-Refused
-returns-in-Refused c = clash (cc (ap date_outcome (sym c.in-Refused.is) ∙ date_is c.before))
+returns-in-Refused c = clash (cc (ap date_outcome (sym c.in-Refused.is) ∙ date_is (goal.at.returns-in-Refused c).After-civil_from_days))

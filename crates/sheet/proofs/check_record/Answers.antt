@@ -10,7 +10,7 @@ returns-in-Refused c =
     let s = c.before.before.before in
     let sheet = s.args.sheet.now in record {
       answer = no_check sheet s.args.place
-          (sym (ap record_outcome c.in-Refused.is) ∙ c.before.«record».ensures ∙ ap (record_answer sheet) (to_z-of_z s.ranges.place));
+          (sym (ap record_outcome c.in-Refused.is) ∙ c.record.ensures.answer ∙ ap (record_answer sheet) (to_z-of_z s.ranges.place));
     }
 
 pub returns-in-Value : goal.returns-in-Value
@@ -19,5 +19,5 @@ returns-in-Value c =
     let sheet = s.args.sheet.now in record {
       answer = c.judge.ensures
           ∙ check_in sheet s.args.place
-          (sym (ap record_outcome c.in-Value.is) ∙ c.before.before.«record».ensures ∙ ap (record_answer sheet) (to_z-of_z s.ranges.place));
+          (sym (ap record_outcome c.in-Value.is) ∙ c.record.ensures.answer ∙ ap (record_answer sheet) (to_z-of_z s.ranges.place));
     }

@@ -13,10 +13,10 @@ pub returns-in-Refused : goal.returns-in-Refused
 returns-in-Refused c =
     let a = c.args in
     let e = sym (ap read_outcome c.in-Refused.is) ∙ c.read.ensures.answer in
-    let both = renamed a.out.now (ap value (report_refused a.sheet.now e)) c.Put-refused.ensures in record { answer = both.0; buffer = both.1 }
+    let both = renamed a.out.now (ap value (report_refused a.sheet.now e)) (c.put_refused.ensures.answer, c.put_refused.ensures.buffer) in record { answer = both.0; buffer = both.1 }
 
 pub returns-in-Value : goal.returns-in-Value
 returns-in-Value c =
     let a = c.args in
     let e = sym c.read.ensures.answer ∙ ap read_outcome c.in-Value.is in
-    let both = renamed a.out.now (ap value (report_lines a.sheet.now e)) c.put_report.ensures in record { answer = both.0; buffer = both.1 }
+    let both = renamed a.out.now (ap value (report_lines a.sheet.now e)) (c.put_report.ensures.answer, c.put_report.ensures.buffer) in record { answer = both.0; buffer = both.1 }

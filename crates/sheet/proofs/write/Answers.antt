@@ -14,7 +14,7 @@ use Rattle.sheet.proofs.write.Goals.{After-is_unfit, Start}
 -- lengths that fit
 module _ (c : After-is_unfit) (left : c.is_unfit.result ≡ false) where
   abbrev start : Start
-  start = c.before.before.before.before
+  start = c.before.before.before.before.before
 
   lengths_fit : unfit (length start.args.note.now) (length start.args.numbers.now) ≡ false
   lengths_fit = sym c.is_unfit.ensures ∙ left
@@ -29,22 +29,22 @@ returns-then-is_unfit c =
     let both = nothing_written a.out.now (text_refused a.note.now a.numbers.now (sym k.is_unfit.ensures ∙ c.if-is_unfit.true)) in record { answer = both.0; buffer = both.1 }
 
 pub overflow_add-length-2 : goal.overflow_add-length-2
-overflow_add-length-2 c = let f = lengths c.before c.if-is_unfit.false in record { fits = omega arith }
+overflow_add-length-2 c = let f = lengths (goal.at.overflow_add-length-2 c).After-is_unfit c.if-is_unfit.false in record { fits = omega arith }
 
 pub returns-then-out-length : goal.returns-then-out-length
 returns-then-out-length c =
-    let k = c.before.before in
+    let k = (goal.at.returns-then-out-length c).After-is_unfit in
     let left = c.if-is_unfit.false in
     let a = k.args in
     let both = renamed a.out.now (text_is a.note.now a.numbers.now (lengths_fit k left))
     (no_room (sheet_bytes a.note.now a.numbers.now) a.out.now (omega (arith, sheet_length_lem a.note.now a.numbers.now, c.if-out-length.true))) in record { answer = both.0; buffer = both.1 }
 
 pub put_sheet-requires : goal.put_sheet-requires
-put_sheet-requires c = (lengths_fit c.before.before.before c.if-is_unfit.false, omega arith)
+put_sheet-requires c = (lengths_fit (goal.at.put_sheet-requires c).After-is_unfit c.if-is_unfit.false, omega arith)
 
 pub returns : goal.returns
 returns c =
-    let k = c.before.before.before.before.before.before in
+    let k = (goal.at.returns c).After-is_unfit in
     let left = c.if-is_unfit.false in
     let a = k.args in
     let l = sheet_length_lem a.note.now a.numbers.now in

@@ -30,19 +30,19 @@ returns-then-instants-i c =
     let l = c.loop-i in
     let s = c.args.instants.now in
     let f : SFits w64 (get_or s l.i (pos 0)) = search rules in
-    let e = falls_here s (last_instant ∷ []) (to_z w64 l.before) l.i (omega arith) (compared _ f c.if-instants-i.true) in
-    sym e ∙ l.invariant.1 ∙ asked c.before.before.before.before
+    let e = falls_here s (last_instant ∷ []) (to_z w64 l.before-bits) l.i (omega arith) (compared _ f c.if-instants-i.true) in
+    sym e ∙ l.invariant.1 ∙ asked (goal.at.returns-then-instants-i c).Start
 
 pub loop-i-preserved : goal.loop-i-preserved
 loop-i-preserved c =
     let l = c.loop-i in
     let s = c.args.instants.now in
     let f : SFits w64 (get_or s l.i (pos 0)) = search rules in
-    let e = falls_later s (last_instant ∷ []) (to_z w64 l.before) l.i (omega arith) (compared _ f c.if-instants-i.false) in
+    let e = falls_later s (last_instant ∷ []) (to_z w64 l.before-bits) l.i (omega arith) (compared _ f c.if-instants-i.false) in
     (omega arith, ap (λ (z : ℤ). falls_from z (drop (l.i + 1) s ++ last_instant ∷ [])) (to_z-of_z f) ∙ sym e ∙ l.invariant.1)
 
 pub returns : goal.returns
 returns c =
     let l = c.loop-i in
     let s = c.args.instants.now in
-    sym (falls_end s (to_z w64 l.before) l.i (omega arith)) ∙ l.invariant.1 ∙ asked c.before.before
+    sym (falls_end s (to_z w64 l.before-bits) l.i (omega arith)) ∙ l.invariant.1 ∙ asked (goal.at.returns c).Start

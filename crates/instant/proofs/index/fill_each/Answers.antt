@@ -34,7 +34,7 @@ overflow_cast-days c = let s = c.before.before.before.before in
     subst (SFits w32) (sym (day_is c)) (day_fits (get_or s.args.instants.now i (pos 0)) (s.requires.1 i (omega arith)))
 
 pub loop-written-preserved : goal.loop-written-preserved
-loop-written-preserved c = let s = c.before.before.before.before in
+loop-written-preserved c = let s = (goal.at.loop-written-preserved c).Start in
     let l = c.loop-written in (
       omega arith,
       (
@@ -47,5 +47,5 @@ loop-written-preserved c = let s = c.before.before.before.before in
 
 pub returns : goal.returns
 returns c = let l = c.loop-written in
-    let s = c.before.before in
+    let s = (goal.at.returns c).Start in
     l.invariant.1.1 ∙ filled (map day_of s.args.instants.now) s.args.days.now (as_long s) l.written (omega arith)

@@ -25,7 +25,7 @@ returns-then-eight_fall c =
     let s = c.args.instants.now in
     let n : l.i + 8 ≤ length s = omega arith in
     let f = sym c.eight_fall.ensures ∙ c.if-eight_fall.true in
-    sym (falls_among s (last_instant ∷ []) (to_z w64 l.before) l.i (l.i + 8) (omega arith) n f) ∙ l.invariant.1
+    sym (falls_among s (last_instant ∷ []) (to_z w64 l.before-bits) l.i (l.i + 8) (omega arith) n f) ∙ l.invariant.1
 
 pub loop-i-preserved : goal.loop-i-preserved
 loop-i-preserved c =
@@ -36,14 +36,14 @@ loop-i-preserved c =
     let g : SFits w64 (get_or s (l.i + 8 - 1) (pos 0)) = search rules in (
       n,
       ap (λ (z : ℤ). falls_from z (drop (l.i + 8) s ++ last_instant ∷ [])) (to_z-of_z g)
-          ∙ sym (falls_behind s (last_instant ∷ []) (to_z w64 l.before) l.i (l.i + 8) (omega arith) n f) ∙ l.invariant.1,
+          ∙ sym (falls_behind s (last_instant ∷ []) (to_z w64 l.before-bits) l.i (l.i + 8) (omega arith) n f) ∙ l.invariant.1,
     )
 
 pub returns : goal.returns
 returns c = let l = c.loop-i in
     let s = c.args.instants.now in
     c.falls_to_last.ensures
-    ∙ ap (λ (r : List ℤ). falls_from (to_z w64 l.before) (r ++ last_instant ∷ [])) (take_all (length s - l.i) (drop l.i s) (omega (arith, length-drop l.i s)))
+    ∙ ap (λ (r : List ℤ). falls_from (to_z w64 l.before-bits) (r ++ last_instant ∷ [])) (take_all (length s - l.i) (drop l.i s) (omega (arith, length-drop l.i s)))
     ∙ l.invariant.1
 
 pub eight_fall-requires : goal.eight_fall-requires

@@ -83,10 +83,10 @@ time_of_fields-requires c = let f = (start c).ranges in (
 
 pub returns : goal.returns
 unfolding time_answer timeℕ
-returns c = let f = (start c.before).ranges in
-    let a = (start c.before).args in
+returns c = let f = (start (goal.at.returns c).Else-outside-4).ranges in
+    let a = (start (goal.at.returns c).Else-outside-4).args in
     let e : c.time_of_fields.result ≡ timeℕ a.hour a.minute a.second a.millisecond =
     c.time_of_fields.ensures.0
     ∙ (λ i. nat_abs (to_z-of_z f.hour i) * per_hour + nat_abs (to_z-of_z f.minute i) * per_minute + nat_abs (to_z-of_z f.second i) * per_second + nat_abs (to_z-of_z f.millisecond i)) in
-    rw (inside c.before)
-    (ap value (to_z_pos w64 (omega (arith, c.time_of_fields.ensures.1)) ∙ ap pos e ∙ sym (time_is a.hour a.minute a.second a.millisecond (time c.before))))
+    rw (inside (goal.at.returns c).Else-outside-4)
+    (ap value (to_z_pos w64 (omega (arith, c.time_of_fields.ensures.1)) ∙ ap pos e ∙ sym (time_is a.hour a.minute a.second a.millisecond (time (goal.at.returns c).Else-outside-4))))

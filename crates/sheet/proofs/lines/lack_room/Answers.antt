@@ -15,4 +15,4 @@ returns-then-room-ge-REPORT_MOST c =
     sym (le-ltb a.room (length (lines_of a.sheet.now a.contents.records)) (omega (arith, lines_short a.sheet.now s.requires, c.if-room-ge-REPORT_MOST.true)))
 
 pub returns : goal.returns
-returns-then-room-ge-REPORT_MOST c = ap (ltb c.args.room) c.lines_length.ensures
+returns c = ap (ltb c.args.room) c.lines_length.ensures

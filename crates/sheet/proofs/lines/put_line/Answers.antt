@@ -15,27 +15,27 @@ use Rattle.sheet.proofs.lines.put_line.Goals.{After-put-behind_space, Start}
 -- the place and the space, and the room that is left
 module _ (c : After-put-behind_space) where
   abbrev start : Start
-  start = c.before.before.before.before.before.before.before.before
+  start = c.before.before.before.before.before.before.before.before.before
 
   room : start.args.at + length (decimal start.args.place) + 1 + length (verdict_text (claim_outcome start.args.answer)) + 1 ≤ length start.args.out.now
   room = omega (arith, start.requires, line_length start.args.place (claim_outcome start.args.answer))
 
-  front : Stored start.args.at (decimal start.args.place ++ space) start.args.out.now c.put-behind_space.new.0 c.put-behind_space.result
+  front : Stored start.args.at (decimal start.args.place ++ space) start.args.out.now c.put-behind_space.new.out c.put-behind_space.result
   front =
       let a = start.args in
       let place = decimal a.place in
-      put_then a.at place space (put_stored a.at place a.out.now (omega (arith, room)) c.put_number-behind_place.ensures)
-      (omega (arith, room, length-append place space)) c.put-behind_space.ensures
+      put_then a.at place space (put_stored a.at place a.out.now (omega (arith, room)) (c.put_number-behind_place.ensures.place, c.put_number-behind_place.ensures.buffer))
+      (omega (arith, room, length-append place space)) (c.put-behind_space.ensures.place, c.put-behind_space.ensures.buffer)
 
 pub put_verdict-behind_verdict-requires : goal.put_verdict-behind_verdict-requires
 put_verdict-behind_verdict-requires c =
-    let k = c.before.before.before in
+    let k = (goal.at.put_verdict-behind_verdict-requires c).After-put-behind_space in
     omega (arith, room k, (front k).end_is, length-append (decimal (start k).args.place) space, stored_length (front k))
 
 pub returns : goal.returns
 returns c =
-    let k = c.before.before.before.before.before.before.before.before.before.before.before in
+    let k = (goal.at.returns c).After-put-behind_space in
     let a = (start k).args in
     let text = verdict_text (claim_outcome a.answer) in
     let place = decimal a.place in
-    put_then a.at (place ++ space ++ text) newline (stored_then (front k) c.put_verdict-behind_verdict.ensures) (start k).requires c.put.ensures
+    put_then a.at (place ++ space ++ text) newline (stored_then (front k) c.put_verdict-behind_verdict.ensures) (start k).requires (c.put.ensures.place, c.put.ensures.buffer)

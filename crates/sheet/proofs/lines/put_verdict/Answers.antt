@@ -14,14 +14,14 @@ pub returns-in-Accepted : goal.returns-in-Accepted
 returns-in-Accepted c =
     let s = c.before.before.before.before.before.before.before in
     let e = text_of c.in-Accepted.is in
-    stored_as e (put_stored s.args.at accepted_text s.args.out.now (omega (arith, s.requires, ap length e)) c.put.ensures)
+    stored_as e (put_stored s.args.at accepted_text s.args.out.now (omega (arith, s.requires, ap length e)) (c.put.ensures.place, c.put.ensures.buffer))
 
 pub returns-in-Refused : goal.returns-in-Refused
 returns-in-Refused c =
     let s = c.before.before.before.before.before.before.before in
     let number = c.number in
     let e = ap decimal number.ensures ∙ text_of c.in-Refused.is in
-    stored_as e (put_stored s.args.at (decimal number.result) s.args.out.now (omega (arith, s.requires, ap length e)) c.put_number.ensures)
+    stored_as e (put_stored s.args.at (decimal number.result) s.args.out.now (omega (arith, s.requires, ap length e)) (c.put_number.ensures.place, c.put_number.ensures.buffer))
 
 pub returns-in-RefusedAt : goal.returns-in-RefusedAt
 returns-in-RefusedAt c =
@@ -35,5 +35,5 @@ returns-in-RefusedAt c =
     let one : s.args.at + length a ≤ length s.args.out.now = omega (arith, two, length-append a space) in
     stored_as e
     (put_then s.args.at (a ++ space) b
-    (put_then s.args.at a space (put_stored s.args.at a s.args.out.now one c.put_number-behind_number.ensures) two c.put-behind_space.ensures)
-    all c.put_number-in-RefusedAt.ensures)
+    (put_then s.args.at a space (put_stored s.args.at a s.args.out.now one (c.put_number-behind_number.ensures.place, c.put_number-behind_number.ensures.buffer)) two (c.put-behind_space.ensures.place, c.put-behind_space.ensures.buffer))
+    all (c.put_number-in-RefusedAt.ensures.place, c.put_number-in-RefusedAt.ensures.buffer))
