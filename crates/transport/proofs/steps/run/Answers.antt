@@ -20,6 +20,7 @@ use Rattle.transport.specs.declared.Clock.TheVariants.{At}
 use Rattle.transport.proofs.OneStep.{next_value}
 use Rattle.transport.proofs.Answered.{no_value, passed_over, taken, landed, leads, leads_to, read_is, again, at_end}
 use Rattle.transport.proofs.steps.run.Goals as goal
+use Rattle.transport.proofs.steps.run.Goals.{then-outside, else-outside+then-lands, else-outside+else-lands}
 
 pub loop-i-init : goal.loop-i-init
 loop-i-init c = let p = c.requires in (p.1.0, p.1.1, p.0, refl, refl)
@@ -53,35 +54,34 @@ loop-i-preserved c =
     let at = At (pos l.at) in
     let f : SFits w64 heard = search rules in
     let v = nat_abs (read heard) in
-    ⊎_elim
-    (λ t.
-    let h = no_value at heard (answered (pos 0) last_value f c.outside.ensures t.0.taken) in
-    rw (t.1, t.2, t.3)
-    (omega arith, omega arith, l.invariant.2, l.invariant.3, again s l.i at l.skipped (omega arith) (passed_over at heard h l.skipped) ∙ l.invariant.4))
-    (⊎_elim
-    (λ t.
-    let within = answered (pos 0) last_value f c.outside.ensures t.0.left in
+    elim c.if-outside.branch [
+    then-outside t ↦
+    let h = no_value at heard (answered (pos 0) last_value f c.outside.ensures t.if-outside.true) in
+    rw (t.at-is, t.last-is, t.skipped-is)
+    (omega arith, omega arith, l.invariant.2, l.invariant.3, again s l.i at l.skipped (omega arith) (passed_over at heard h l.skipped) ∙ l.invariant.4)
+    | else-outside+then-lands t ↦
+    let within = answered (pos 0) last_value f c.outside.ensures t.if-outside.false in
     let w = natural_within 0 last_value heard within in
     let small : v < wrap = omega (arith, read_high f w) in
-    let inside = not-true _ (sym t.2.ensures ∙ t.3.taken) in
-    let a = t.1.result in
+    let inside = not-true _ (sym t.lands.ensures ∙ t.if-lands.true) in
+    let a = t.ahead-ahead.result in
     let d = landed a inside in
-    let h = leads l.at v a refl (read_is f w) t.1.ensures (here l.invariant.2) within ∙ inside in
-    let to = leads_to l.at v a refl (read_is f w) t.1.ensures inside in
-    rw (t.4, t.5, t.6) (
+    let h = leads l.at v a refl (read_is f w) t.ahead-ahead.ensures (here l.invariant.2) within ∙ inside in
+    let to = leads_to l.at v a refl (read_is f w) t.ahead-ahead.ensures inside in
+    rw (t.at-is, t.last-is, t.skipped-is) (
       omega arith,
       omega arith,
       d.1,
-      next_value l.at v a t.1.ensures small d.0,
+      next_value l.at v a t.ahead-ahead.ensures small d.0,
       again s l.i at l.skipped (omega arith) (taken at heard h l.skipped ∙ ap (λ z. so_far (At z) l.skipped) to) ∙ l.invariant.4,
-    ))
-    (λ t.
-    let within = answered (pos 0) last_value f c.outside.ensures t.0.left in
+    )
+    | else-outside+else-lands t ↦
+    let within = answered (pos 0) last_value f c.outside.ensures t.if-outside.false in
     let w = natural_within 0 last_value heard within in
-    let h = leads l.at v t.1.result refl (read_is f w) t.1.ensures (here l.invariant.2) within ∙ not-false _ (sym t.2.ensures ∙ t.3.left) in
-    rw (t.4, t.5, t.6)
-    (omega arith, omega arith, l.invariant.2, l.invariant.3, again s l.i at l.skipped (omega arith) (passed_over at heard h l.skipped) ∙ l.invariant.4)))
-    c.if-outside.branch
+    let h = leads l.at v t.ahead-ahead.result refl (read_is f w) t.ahead-ahead.ensures (here l.invariant.2) within ∙ not-false _ (sym t.lands.ensures ∙ t.if-lands.false) in
+    rw (t.at-is, t.last-is, t.skipped-is)
+    (omega arith, omega arith, l.invariant.2, l.invariant.3, again s l.i at l.skipped (omega arith) (passed_over at heard h l.skipped) ∙ l.invariant.4)
+    ]
 
 pub returns : goal.returns
 returns c =

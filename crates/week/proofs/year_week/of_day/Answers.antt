@@ -6,19 +6,18 @@ use Rattle.calendar.proofs.Quotients.{coded, coded_is, year_product}
 use Rattle.calendar.specs.Closed.{regular_day, days_end}
 use Rattle.week.proofs.Products.{week_is, in_year, day_is}
 use borrow.Author.Rules.{rules}
-use Rattle.week.proofs.year_week.of_day.Statement.{statement}
-use Rattle.week.proofs.year_week.of_day.Tie as tie
+use Rattle.week.proofs.year_week.of_day.Goals as goal
 
 small : (n : ℕ) → n < days_end → coded (n + 1) < 2 ^ 25
 small n h = omega (arith, coded_is n h)
 
-add-regular : tie.Need-overflow-add-regular
-add-regular c = let h = c.requires in record { fits = omega (arith, small c.args.n (omega arith)) }
+pub overflow_add-regular : goal.overflow_add-regular
+overflow_add-regular c = let h = c.requires in record { fits = omega (arith, small c.args.n (omega arith)) }
 
-mul-p : tie.Need-overflow-mul-p
-mul-p c = let h = c.requires in record { fits = omega (arith, small c.args.n (omega arith)) }
+pub overflow_mul-p : goal.overflow_mul-p
+overflow_mul-p c = let h = c.requires in record { fits = omega (arith, small c.args.n (omega arith)) }
 
-returns : tie.Need-returns
+pub returns : goal.returns
 returns c =
     let n = c.args.n in
     let h = c.requires in
@@ -26,17 +25,3 @@ returns c =
     let y = ap (λ r. r * 23517959 / 2 ^ 33) e ∙ year_product (regular_day n) (omega arith) in
     let w = ap (λ r. r * 23517959 % 2 ^ 33 * 13357 / 2 ^ 41 + 1) e ∙ ap (λ k. k + 1) (week_is n (omega arith)) in
     (subst (InYear n) (sym y) (in_year n), w ∙ ap (λ k. k / 7 + 1) (sym (day_is n)) ∙ ap (λ y. (n - first_day y) / 7 + 1) (sym y))
-
-pub of_day_spec : {M : Type 1} → statement M
-of_day_spec =
-    tie.close
-    (tie.spec
-    (λ c. search rules)
-    (λ c. search rules)
-    (λ c. search rules)
-    add-regular
-    mul-p
-    (λ c. search rules)
-    (λ c. search rules)
-    (λ c. search rules)
-    returns)

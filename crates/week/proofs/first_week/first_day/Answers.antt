@@ -4,15 +4,11 @@ use native.Mathlib.Omega.{arith}
 use Rattle.calendar.proofs.Quotients.{hundredth_product}
 use Rattle.week.proofs.Years.{first_day_is, first_day_le}
 use borrow.Author.Rules.{rules}
-use Rattle.week.proofs.first_week.first_day.Statement.{statement}
-use Rattle.week.proofs.first_week.first_day.Tie as tie
+use Rattle.week.proofs.first_week.first_day.Goals as goal
 
-returns : tie.Need-returns
+pub returns : goal.returns
 returns c =
     let y = c.args.year in
     let h = c.requires in
     let e = ap (λ c. 1461 * y / 4 - c + c / 4) (hundredth_product y (omega arith)) ∙ first_day_is y in
     (e, omega (arith, e, first_day_le y h))
-
-pub first_day_spec : {M : Type 1} → statement M
-first_day_spec = tie.close (tie.spec (λ c. search rules) (λ c. search rules) (λ c. search rules) (λ c. search rules) returns)
