@@ -1,0 +1,12 @@
+use Rattle.std.proofs.Common.{◌≡◌, ◌+◌, ◌-◌, ◌≤◌, length, set, sym, refl, ap, ◌∙◌, add-one, arith, length-set}
+use Rattle.text.specs.Words.{byte_of, bytes_of}
+use Rattle.text.specs.Filled.{filled}
+use Rattle.text.proofs.Words.{length_bytes}
+use Rattle.text.proofs.Filled.{filled_length, filled_nothing, filled_byte}
+use Rattle.labels.proofs.buffer.store.Given as goal
+
+abbrev pub invariant-loop-i : goal.invariant-loop-i
+invariant-loop-i l = (l.i ≤ l.count) × ((length l.out ≡ length l.initial.out) × (l.out ≡ filled l.at (bytes_of l.i l.word) l.initial.out))
+
+abbrev pub decreases-loop-i : goal.decreases-loop-i
+decreases-loop-i l = l.count - l.i

@@ -1,0 +1,57 @@
+use Rattle.std.proofs.Common.{◌≡◌, ℕ, ◌+◌, ◌*◌, ◌/◌, ◌%◌, eqb, pos, ap, ◌∙◌, ⊎_elim, arith, w64, rules, eq-eqb, eqb-true}
+use lib.Bits.{bit_and, and_le_r}
+use borrow.Author.Tests.{not-true, not-false}
+use mir.Facts.{to_z_pos}
+use Rattle.refusal.specs.Outcome.{value}
+use Rattle.numbers.proofs.Bools.{no_both}
+use Rattle.instant.specs.Units.{per_second, per_minute}
+use Rattle.labels.specs.Words.{pairs, pair_of, number_of}
+use Rattle.labels.proofs.Rooms.{highest}
+use Rattle.labels.proofs.Thousandths.{number_small}
+use Rattle.labels.proofs.TimesOfDay.{minutes_are, small_clock, tens_small, small_tens, no_time, time_is}
+use Rattle.labels.proofs.clock.time_of_day.Goals as goal
+
+-- the minutes of the day as the code has them
+abbrev minutes : (p : ℕ) → ℕ
+minutes p = bit_and p 4278190335 * 1006632961 / 16777216 % 65536
+
+minutes_is : (clock : ℕ) {p : ℕ} → p ≡ pairs clock → minutes p ≡ pair_of clock 0 * 60 + pair_of clock 3
+minutes_is clock e = ap minutes e ∙ minutes_are (pairs clock)
+
+-- the tens raised, of which no highest bit may be set
+abbrev bits : (clock : ℕ) → ℕ
+bits clock = bit_and (clock / 16777216 % 4294967296 + 2046820474) highest
+
+pub pairs-requires : goal.pairs-requires
+pairs-requires c = small_clock c.requires.0
+
+pub overflow_mul-minutes : goal.overflow_mul-minutes
+overflow_mul-minutes c = omega (arith, and_le_r c.pairs.result 4278190335)
+
+pub returns-then-minutes-gt1439 : goal.returns-then-minutes-gt1439
+returns-then-minutes-gt1439 c =
+    let s = c.before.before in
+    let v = s.args.clock in
+    let n = minutes_is v c.pairs.ensures in
+    no_time (pair_of v 0) (pair_of v 3) (pair_of v 6) (number_of s.args.fraction 4)
+    (λ h m k. ⊎_elim (λ t. omega (arith, n, t.taken, h, m)) (λ t. no_both (eqb (bits v) 0) (eq-eqb (bits v) 0 (small_tens s.requires.0 m k)) (not-true (eqb (bits v) 0) t.1.taken)) c.then-minutes-gt1439.branch)
+
+pub pair-requires : goal.pair-requires
+pair-requires c = (small_clock c.requires.0, omega arith)
+
+pub returns : goal.returns
+returns c =
+    let s = c.before.before.before.before.before in
+    let v = s.args.clock in
+    let p = c.pairs in
+    let m = minutes_is v p.ensures in
+    let a = c.if-minutes-gt1439.false in
+    let t = tens_small s.requires.0 (eqb-true (bits v) 0 (not-false (eqb (bits v) 0) c.if-clock-ne0.false)) in
+    let b = t.0 in
+    let d = t.1 in
+    let q = c.pair.ensures in
+    let f = c.thousandths.ensures.0 in
+    let k = number_small s.requires.1 in
+    let n = minutes p.result * per_minute + c.pair.result * per_second + c.thousandths.result in
+    ap value (to_z_pos w64 {n = n} (omega arith) ∙ ap pos (omega arith))
+    ∙ time_is (pair_of v 0) (pair_of v 3) (pair_of v 6) (number_of s.args.fraction 4) (omega arith) b d (omega (arith, k))

@@ -1,0 +1,9 @@
+use Rattle.std.proofs.Common.{◌-◌, length, refl, arith}
+use Rattle.text.proofs.Words.{Made, none_made, room, more_made, all_made}
+use Rattle.labels.proofs.digits.word_of.Given as goal
+
+abbrev pub invariant-loop-i : goal.invariant-loop-i
+invariant-loop-i l = Made l.shape (length l.shape) l.n l.i
+
+abbrev pub decreases-loop-i : goal.decreases-loop-i
+decreases-loop-i l = l.i

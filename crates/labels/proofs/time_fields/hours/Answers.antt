@@ -1,0 +1,6 @@
+use Rattle.std.proofs.Common.{arith, rules}
+use Rattle.labels.proofs.Records.{hours_are}
+use Rattle.labels.proofs.time_fields.hours.Goals as goal
+
+pub returns : goal.returns
+returns c = let h = c.requires in hours_are c.args.minutes (omega arith)
