@@ -12,7 +12,7 @@ returns-then-first-second-ne0 c =
     let a = b.before in
     let k = a.before.before.before in
     one_is_wrong k.args.shape.now k.args.first k.args.other.now k.args.second k.requires.0 k.requires.1 a.word_of.ensures b.word_of-2.ensures
-    x.room_of.ensures y.room_of-2.ensures s.wrapping_add_u64-raised.ensures t.wrapping_add_u64-other_raised.ensures c.if-first-second-ne0.true
+    x.room_of.ensures y.room_of-2.ensures s.wrapping_add_u64-raised.ensures.value t.wrapping_add_u64-other_raised.ensures.value c.if-first-second-ne0.true
 
 pub returns : goal.returns
 returns c =
@@ -24,4 +24,4 @@ returns c =
     let a = b.before in
     let k = a.before.before.before in
     both_are_right k.args.shape.now k.args.first k.args.other.now k.args.second k.requires.0 k.requires.1 a.word_of.ensures b.word_of-2.ensures
-    x.room_of.ensures y.room_of-2.ensures s.wrapping_add_u64-raised.ensures t.wrapping_add_u64-other_raised.ensures c.if-first-second-ne0.false
+    x.room_of.ensures y.room_of-2.ensures s.wrapping_add_u64-raised.ensures.value t.wrapping_add_u64-other_raised.ensures.value c.if-first-second-ne0.false
