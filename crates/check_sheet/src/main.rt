@@ -3,7 +3,7 @@
 
 #![tactic(auto)]
 
-ghost use Rattle.std.specs.Prelude.{◌≤◌, length, IfOk};
+ghost use Rattle.std.specs.Prelude.{◌≤◌, length};
 ghost use Rattle.std.specs.Io.{ReadsAtMost};
 
 use anyhow::Context;
@@ -30,6 +30,7 @@ fn read_input(input: &mut impl Read, buffer: &mut [u8]) -> io::Result<usize>
     ensures { ReadsAtMost result buffer.new }
 {
     let mut filled = 0;
+    // A loop must end, so the reads are counted; no input takes as many.
     for _ in 0..u64::MAX {
         let got = read_piece(input, buffer, next_place(filled, buffer.len()))?;
         if got == 0 {

@@ -1,6 +1,5 @@
 -- The starred rows of document 01, "Numbers to try", as one checked table of theorems about the definitions; then two labels of the
 -- other rows, and rows of document 02.
-use Prim.Native.Nat.{◌≤◌}
 use mathlib.Core.Path.{◌≡◌, refl, ap}
 use mathlib.Core.List.{[], ◌∷◌}
 use lib.Dec.{lit≤}
