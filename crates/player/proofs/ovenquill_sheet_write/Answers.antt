@@ -4,7 +4,6 @@ use Rattle.sheet.specs.Answers.{sheet_text}
 use Rattle.player.specs.Returned.{returned_count}
 use Rattle.player.proofs.Answered.{as_read}
 use Rattle.player.proofs.Fitting.{bytes_fit}
-use borrow.Author.Rules.{rules}
 use Rattle.player.proofs.ovenquill_sheet_write.Goals as goal
 
 -- What is returned is what the call answered: not more bytes than the buffer has, which fits.

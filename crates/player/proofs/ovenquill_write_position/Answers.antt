@@ -2,7 +2,6 @@ use native.Mathlib.Omega.{arith}
 use Rattle.labels.specs.Webvtt.{position_label}
 use Rattle.player.proofs.Answered.{as_read, label_written}
 use Rattle.player.proofs.Fitting.{bytes_fit}
-use borrow.Author.Rules.{rules}
 use Rattle.player.proofs.ovenquill_write_position.Goals as goal
 
 -- What is returned is what the call answered: not more bytes than the buffer has, which fits.

@@ -1,9 +1,7 @@
-use Rattle.std.proofs.Common.{◌≡◌, ℕ, ◌+◌, ◌*◌, ◌/◌, ◌%◌, eqb, pos, ap, ◌∙◌, ⊎_elim, arith, w64, rules, eq-eqb, eqb-true}
+use Rattle.std.proofs.Common.{◌≡◌, ℕ, ◌+◌, ◌*◌, ◌/◌, ◌%◌, pos, ap, ◌∙◌, arith, w64}
 use lib.Bits.{bit_and, and_le_r}
-use borrow.Author.Tests.{not-true, not-false}
 use mir.Facts.{to_z_pos}
 use Rattle.refusal.specs.Outcome.{value}
-use Rattle.numbers.proofs.Bools.{no_both}
 use Rattle.instant.specs.Units.{per_second, per_minute}
 use Rattle.labels.specs.Words.{pairs, pair_of, number_of}
 use Rattle.labels.proofs.Rooms.{highest}
@@ -36,7 +34,7 @@ returns-then-minutes-gt1439 c =
     let n = minutes_is v c.pairs.ensures in
     no_time (pair_of v 0) (pair_of v 3) (pair_of v 6) (number_of s.args.fraction 4)
     (λ h m k. elim c.then-minutes-gt1439.branch [
-      then-minutes-gt1439-via-then-minutes-gt1439 t ↦ omega (arith, n, t.if-minutes-gt1439.true, h, m)
+      | then-minutes-gt1439-via-then-minutes-gt1439 t ↦ omega (arith, n, t.if-minutes-gt1439.true, h, m)
       | then-minutes-gt1439-via-else-minutes-gt1439+then-clock-ne0 t ↦ absurd (t.if-clock-ne0.true (small_tens s.requires.0 m k))
     ])
 

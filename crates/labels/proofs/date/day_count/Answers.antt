@@ -4,7 +4,7 @@ use Rattle.calendar.specs.Closed.{leap_day, month_days, Valid, day_number, to_ye
 use Rattle.calendar.proofs.Centuries.{year_zero, month_refuses, day_refuses, valid_days}
 use Rattle.calendar.proofs.Leap.{leap_le}
 use Rattle.refusal.specs.Outcome.{value}
-use Rattle.std.proofs.Common.{◌≡◌, ℕ, ◌+◌, ◌*◌, ◌%◌, ◌^◌, ◌<◌, ◌≤◌, ap, ◌∙◌, ⊎_elim, arith, rules, ltb-false, ltb-true}
+use Rattle.std.proofs.Common.{◌≡◌, ℕ, ◌+◌, ◌*◌, ◌%◌, ◌^◌, ◌<◌, ◌≤◌, ap, ◌∙◌, arith}
 use Rattle.labels.proofs.date.day_count.Goals as goal
 use Rattle.labels.proofs.date.day_count.Goals.{then-month-lt1-via-then-month-lt1, then-month-lt1-via-else-month-lt1+then-month-gt12, then-day-lt1-via-then-day-lt1, then-day-lt1-via-else-day-lt1+then-day-entry, After-month_entry-entry, Start}
 

@@ -1,6 +1,6 @@
 use Rattle.calendar.proofs.Centuries.{century_leap}
 use Rattle.calendar.proofs.Leap.{leap_le}
-use Rattle.std.proofs.Common.{◌+◌, ◌*◌, ⊎_elim, arith, rules}
+use Rattle.std.proofs.Common.{◌+◌, ◌*◌, arith}
 use Rattle.labels.proofs.date.leap_day.Goals as goal
 use Rattle.labels.proofs.date.leap_day.Goals.{then-year-eq0, else-year-eq0}
 

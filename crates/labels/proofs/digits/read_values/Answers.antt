@@ -1,4 +1,3 @@
-use Rattle.std.proofs.Common.{rules}
 use Rattle.labels.proofs.Values.{one_is_wrong, both_are_right}
 use Rattle.labels.proofs.digits.read_values.Goals as goal
 

@@ -1,4 +1,4 @@
-use Rattle.std.proofs.Common.{◌+◌, [], ◌∷◌, refl, ap, ◌∙◌, rules}
+use Rattle.std.proofs.Common.{◌+◌, [], ◌∷◌, refl, ap, ◌∙◌}
 use Rattle.labels.specs.Clock.{colon}
 use Rattle.text.specs.Filled.{filled}
 use Rattle.labels.specs.Webvtt.{clock_of}

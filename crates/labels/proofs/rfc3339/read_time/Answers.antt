@@ -1,5 +1,4 @@
 use Rattle.std.proofs.Common.{◌+◌, ◌*◌, sym, refl, ◌∙◌, arith, rules}
-use borrow.Author.Tests.{not-true, not-false}
 use Rattle.text.proofs.Words.{bytes}
 use Rattle.labels.proofs.ReadValues.{ValuesRead}
 use Rattle.labels.proofs.Shapes.{clock_shape, fraction_shape}

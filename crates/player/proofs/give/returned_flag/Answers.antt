@@ -2,7 +2,6 @@ use mathlib.Core.Path.{sym, ap, ◌∙◌}
 use Rattle.calendar.specs.Answers.{flag_outcome}
 use Rattle.player.specs.Returned.{returned_flag}
 use Rattle.player.proofs.Answered.{as_read, flag_read}
-use borrow.Author.Rules.{rules}
 use Rattle.player.proofs.give.returned_flag.Goals as goal
 
 -- Each case returns what its outcome says.

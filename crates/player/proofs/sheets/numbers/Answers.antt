@@ -4,7 +4,6 @@ use mathlib.Core.List.{List, ◌∷◌}
 use lib.IntN.{ℤ, pos}
 use mir.Syntax.{w32, w64}
 use mir.Val.{Fits, to_z}
-use borrow.Author.Rules.{rules}
 use Rattle.sheet.proofs.NumberBytes.{number_cast}
 use Rattle.sheet.specs.Answers.{record_outcome}
 use Rattle.player.specs.Returned.{record_numbers}
