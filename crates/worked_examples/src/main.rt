@@ -14,16 +14,14 @@ mod week_rows;
 mod writing;
 
 use std::io;
-use std::io::{BufWriter, Write};
 
 fn main(rt: HostRuntime) -> io::Result<()> {
-    let mut out = BufWriter::new(rt.alloc(), rt.stdout())?;
+    let mut out = rt.stdout();
     calendar_rows::run(&mut out)?;
     week_rows::run(&mut out)?;
     instant_rows::run(&mut out)?;
     label_rows::run(&mut out)?;
     timing_rows::run(&mut out)?;
     constants_rows::run(&mut out)?;
-    clock_rows::run(&mut out)?;
-    out.flush()
+    clock_rows::run(&mut out)
 }
