@@ -9,7 +9,7 @@ CFLAGS ?= -O2 -Wall -Wextra -Wconversion -pedantic -Werror
 LIB := build/lib/libovenquill.a
 CHECK_SHEET := build/check_sheet
 EXAMPLES := build/player build/check_claim build/write_sheet
-RATTLE := crates.txt $(shell find crates -name '*.rt' -o -name '*.antt')
+RATTLE := crates.txt $(shell find crates -name out -prune -o \( -name '*.rt' -o -name '*.antt' \) -print)
 
 # The version stands in the header, its three numbers a line each.
 VERSION := $(subst $() ,.,$(strip $(shell sed -n 's/^.define OVENQUILL_VERSION_[A-Z]* //p' include/ovenquill.h)))
@@ -22,14 +22,14 @@ all: $(LIB) $(CHECK_SHEET) $(EXAMPLES)
 
 # The archive: proved first, and only then built.
 $(LIB): $(RATTLE)
-	rt staticlib player
+	cd crates/player && rt lib
 	mkdir -p build/lib
-	cp target/staticlib/libplayer.a $@
+	cp crates/player/out/libplayer.a $@
 
 # The program, proved and built after the archive: what both have is proved once, and never by two at a time.
 $(CHECK_SHEET): $(RATTLE) | $(LIB)
-	rt check check_sheet
-	cp target/bin/check_sheet $@
+	cd crates/check_sheet && rt run < /dev/null > /dev/null
+	cp crates/check_sheet/out/check_sheet $@
 
 build/%: examples/%.c examples/read_line.h include/ovenquill.h $(LIB)
 	$(CC) $(CFLAGS) -std=c99 -Iinclude $< $(LIB) -o $@
@@ -164,4 +164,4 @@ install: $(LIB) $(CHECK_SHEET)
 	  > '$(DESTDIR)$(INSTALLED)/lib/pkgconfig/ovenquill.pc'
 
 clean:
-	rm -rf build target rust/target
+	rm -rf build crates/*/out rust/target

@@ -32,7 +32,7 @@ FAULTS = [
     (RATTLE, "a missing call", r'(pub extern "C" fn) ovenquill_is_leap\b', r"\1 ovenquill_leap", "ovenquill_is_leap"),
     (HEADER, "a missing call", r"int64_t ovenquill_is_leap\([^)]*\);", "", "ovenquill_is_leap"),
     (RUST, "a missing call", r"(pub )?fn ovenquill_is_leap\([^)]*\) -> i64;", "", "ovenquill_is_leap"),
-    (RATTLE, "a call that is not exported", r'#\[no_mangle\] (pub extern "C" fn ovenquill_is_leap)\b', r"\1", "ovenquill_is_leap"),
+    (RATTLE, "a call that is not exported", r'#\[unsafe\(no_mangle\)\]\n(pub extern "C" fn ovenquill_is_leap)\b', r"\1", "ovenquill_is_leap"),
     (RATTLE, "a place of another size", r"(fields: &mut \[i64;) 7\]", r"\1 6]", "ovenquill_split_instant"),
     (HEADER, "a struct with a field less", r"int64_t millisecond;", "", "ovenquill_split_instant"),
     (RUST, "a struct with a field less", r"(pub )?millisecond: i64,( \})", r"\2", "ovenquill_split_instant"),

@@ -7,79 +7,63 @@
 use calendar::DateAnswer;
 use calendar::range::{FIRST_YEAR, LAST_YEAR};
 use refusal::NumberAnswer;
+use std::io;
+use std::io::{BufWriter, Write};
 
 const STEP: u32 = 13;
 
 // How many years are printed.
 const YEARS: u32 = (LAST_YEAR - FIRST_YEAR) as u32 / STEP + 1;
 
-fn main() {
+fn main(rt: HostRuntime) -> io::Result<()> {
+    let mut out = BufWriter::new(rt.alloc(), rt.stdout())?;
     for steps in 0u32..YEARS {
-        months((steps * STEP) as i64 + FIRST_YEAR);
+        months(&mut out, (steps * STEP) as i64 + FIRST_YEAR)?;
     }
+    out.flush()
 }
 
-fn months(year: i64) {
+fn months(out: &mut impl Write, year: i64) -> io::Result<()> {
     for month in 1u32..13 {
-        ends(year, month as i64);
+        ends(out, year, month as i64)?;
     }
+    Ok(())
 }
 
-fn ends(year: i64, month: i64) {
+fn ends(out: &mut impl Write, year: i64, month: i64) -> io::Result<()> {
     match calendar::last_day_of_month(year, month) {
         NumberAnswer::Value(length) => {
-            day(year, month, 1);
-            text(b" ");
-            day(year, month, length);
+            day(out, year, month, 1)?;
+            write!(out, " ")?;
+            day(out, year, month, length)?;
         }
-        NumberAnswer::Refused(_) => text(b"refused"),
+        NumberAnswer::Refused(_) => write!(out, "refused")?,
     }
-    text(b"\n");
+    writeln!(out)
 }
 
 // The date of the count of a date, the count and its weekday.
-fn day(year: i64, month: i64, day: i64) {
+fn day(out: &mut impl Write, year: i64, month: i64, day: i64) -> io::Result<()> {
     match calendar::days_from_civil(year, month, day) {
         NumberAnswer::Value(count) => {
-            date(calendar::civil_from_days(count));
-            number(count);
-            text(b" ");
-            weekday(calendar::weekday_from_days(count));
+            date(out, calendar::civil_from_days(count))?;
+            write!(out, "{count} ")?;
+            weekday(out, calendar::weekday_from_days(count))
         }
-        NumberAnswer::Refused(_) => text(b"refused"),
+        NumberAnswer::Refused(_) => write!(out, "refused"),
     }
 }
 
-fn date(answer: DateAnswer) {
+fn date(out: &mut impl Write, answer: DateAnswer) -> io::Result<()> {
     match answer {
-        DateAnswer::Value(date) => {
-            number(date.year);
-            text(b" ");
-            number(date.month);
-            text(b" ");
-            number(date.day);
-            text(b" ");
-        }
-        DateAnswer::Refused(_) => text(b"refused"),
+        DateAnswer::Value(date) => write!(out, "{} {} {} ", date.year, date.month, date.day),
+        DateAnswer::Refused(_) => write!(out, "refused"),
     }
 }
 
-fn weekday(answer: NumberAnswer) {
+fn weekday(out: &mut impl Write, answer: NumberAnswer) -> io::Result<()> {
     match answer {
-        NumberAnswer::Value(n) => number(n),
-        NumberAnswer::Refused(_) => text(b"refused"),
+        NumberAnswer::Value(n) => write!(out, "{n}"),
+        NumberAnswer::Refused(_) => write!(out, "refused"),
     }
-}
-
-fn number(n: i64) {
-    if n < 0 {
-        text(b"-");
-        io::print_decimal(libc::STDOUT_FILENO, (-1 - n) as u64 + 1);
-    } else {
-        io::print_decimal(libc::STDOUT_FILENO, n as u64);
-    }
-}
-
-fn text(words: &[u8]) {
-    io::write_all(libc::STDOUT_FILENO, words);
 }

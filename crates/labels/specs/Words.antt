@@ -1,5 +1,5 @@
 -- Texts of at most eight bytes as one number, for proofs and private contracts only: nobody has to believe them.
-use Rattle.std.specs.Prelude.{◌≡◌, ℕ, zero, suc, ◌+◌, ◌-◌, ◌*◌, ◌/◌, ◌%◌, ◌^◌, ◌<◌, ◌≤◌, Bool, true, cond, not, ◌&&◌, List, [], ◌∷◌, ◌++◌, map, length, ◌==◌, nat_le}
+use Rattle.std.specs.Prelude.{◌≡◌, ℕ, zero, suc, ◌+◌, ◌-◌, ◌*◌, ◌/◌, ◌^◌, ◌<◌, ◌≤◌, Bool, true, cond, not, ◌&&◌, List, [], ◌∷◌, map, length, ◌==◌, nat_le}
 use Rattle.text.specs.Words.{word, byte_of, bytes_of}
 use Rattle.labels.specs.Digits.{has_small, fits}
 use Rattle.labels.specs.declared.digits.Values.{Values}

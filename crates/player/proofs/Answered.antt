@@ -15,7 +15,7 @@ use Rattle.player.specs.Returned.{returned_count, returned_done, after_refusal}
 
 -- a number in the range of an i64, read as one
 pub as_read : {n m : ℤ} → mag n < 2 ^ 63 → n ≡ m → read n ≡ m
-as_read small e = to_z-of_z (record { sfits = small }) ∙ e
+as_read small e = to_z-of_z {w = w64} (record { sfits = small }) ∙ e
 
 pub cons_read : {n : ℤ} {ns ms : List ℤ} → mag n < 2 ^ 63 → ns ≡ ms → read n ∷ ns ≡ n ∷ ms
 cons_read {n} small e i = as_read {n = n} small refl i ∷ e i

@@ -16,7 +16,7 @@ use Rattle.constants.specs.declared.ClaimAnswer.{ClaimAnswer}
 use Rattle.constants.proofs.Answers.{claim_cases}
 use Rattle.sheet.specs.declared.Claim.{Claim}
 use Rattle.sheet.specs.declared.Contents.{Contents}
-use Rattle.sheet.specs.Answers.{records, read_answer, claim_in_place, verdict, check_answer}
+use Rattle.sheet.specs.Answers.{read_answer, claim_in_place, verdict, check_answer}
 use Rattle.sheet.specs.Report.{space, newline, verdict_text, line, lines_of, report_text}
 use Rattle.sheet.proofs.Trailer.{opened, refused_so, check_here}
 

@@ -1,126 +1,126 @@
 // Document 01's rows of instants and of the index, both ends of the range and the instants just outside it, and an index that falls,
 // one that does not, and one with a fall and a bad instant.
 
-use super::show::{natural, number, number_answer, refused, spaced_numbers, text, three_numbers};
+use super::show::{number_answer, refused, spaced_numbers, three_numbers};
 use instant::{Fields, FieldsAnswer, IndexAnswer};
+use std::io;
+use std::io::Write;
 
-pub fn run() {
-    moment(-86400000);
-    moment(-86400001);
-    moment(-1);
-    moment(0);
-    moment(1683729000000);
-    moment(-62167219200000);
-    moment(-62167219200001);
-    moment(253402300799999);
-    moment(253402300800000);
-    moment(-1071989683200000);
-    moment(-1071989683200001);
-    moment(947655244799999);
-    moment(947655244800000);
-    joined(2023, 5, 10, 14, 30, 0, 0);
-    joined(1969, 12, 31, 23, 59, 59, 999);
-    joined(2016, 12, 31, 23, 59, 60, 0);
-    joined(2016, 12, 32, 23, 59, 60, 0);
-    joined(2016, 12, 31, 24, 0, 0, 0);
-    joined(10000, 1, 1, 0, 0, 0, 0);
-    joined(-1, 12, 31, 23, 59, 59, 999);
-    joined(32000, 13, 1, 0, 0, 0, 0);
-    index(&[-1, 0, 86399999, 86400000], &mut [7; 4]);
-    index(&[-62167219200001, 253402300800000], &mut [7; 2]);
-    index(&[0, 947655244800000], &mut [7; 2]);
-    index(&[0, 86400000, 86399999], &mut [7; 3]);
-    index(&[5, 5], &mut [7; 2]);
-    index(&[1, 0, 947655244800000], &mut [7; 3]);
-    empty_index();
-    uneven_index();
+pub fn run(out: &mut impl Write) -> io::Result<()> {
+    moment(out, -86400000)?;
+    moment(out, -86400001)?;
+    moment(out, -1)?;
+    moment(out, 0)?;
+    moment(out, 1683729000000)?;
+    moment(out, -62167219200000)?;
+    moment(out, -62167219200001)?;
+    moment(out, 253402300799999)?;
+    moment(out, 253402300800000)?;
+    moment(out, -1071989683200000)?;
+    moment(out, -1071989683200001)?;
+    moment(out, 947655244799999)?;
+    moment(out, 947655244800000)?;
+    joined(out, 2023, 5, 10, 14, 30, 0, 0)?;
+    joined(out, 1969, 12, 31, 23, 59, 59, 999)?;
+    joined(out, 2016, 12, 31, 23, 59, 60, 0)?;
+    joined(out, 2016, 12, 32, 23, 59, 60, 0)?;
+    joined(out, 2016, 12, 31, 24, 0, 0, 0)?;
+    joined(out, 10000, 1, 1, 0, 0, 0, 0)?;
+    joined(out, -1, 12, 31, 23, 59, 59, 999)?;
+    joined(out, 32000, 13, 1, 0, 0, 0, 0)?;
+    index(out, &[-1, 0, 86399999, 86400000], &mut [7; 4])?;
+    index(out, &[-62167219200001, 253402300800000], &mut [7; 2])?;
+    index(out, &[0, 947655244800000], &mut [7; 2])?;
+    index(out, &[0, 86400000, 86399999], &mut [7; 3])?;
+    index(out, &[5, 5], &mut [7; 2])?;
+    index(out, &[1, 0, 947655244800000], &mut [7; 3])?;
+    empty_index(out)?;
+    uneven_index(out)?;
+    Ok(())
 }
 
 // An instant: its day and its fields.
-fn moment(instant: i64) {
-    text(b"instant ");
-    number(instant);
-    text(b": day ");
-    number_answer(instant::day_of_instant(instant));
-    text(b", fields ");
+fn moment(out: &mut impl Write, instant: i64) -> io::Result<()> {
+    write!(out, "instant {instant}: day ")?;
+    number_answer(out, instant::day_of_instant(instant))?;
+    write!(out, ", fields ")?;
     match instant::split_instant(instant) {
-        FieldsAnswer::Value(fields) => show_fields(fields),
-        FieldsAnswer::Refused(r) => refused(r),
+        FieldsAnswer::Value(fields) => show_fields(out, fields)?,
+        FieldsAnswer::Refused(r) => refused(out, r)?,
     }
-    text(b"\n");
+    writeln!(out)
 }
 
-fn show_fields(fields: Fields) {
-    three_numbers(fields.year, fields.month, fields.day);
-    text(b" ");
-    three_numbers(fields.hour, fields.minute, fields.second);
-    text(b" ");
-    number(fields.millisecond);
+fn show_fields(out: &mut impl Write, fields: Fields) -> io::Result<()> {
+    three_numbers(out, fields.year, fields.month, fields.day)?;
+    write!(out, " ")?;
+    three_numbers(out, fields.hour, fields.minute, fields.second)?;
+    write!(out, " {}", fields.millisecond)
 }
 
-fn joined(year: i64, month: i64, day: i64, hour: i64, minute: i64, second: i64, millisecond: i64) {
-    text(b"fields ");
-    three_numbers(year, month, day);
-    text(b" ");
-    three_numbers(hour, minute, second);
-    text(b" ");
-    number(millisecond);
-    text(b": instant ");
-    number_answer(instant::join_instant(year, month, day, hour, minute, second, millisecond));
-    text(b"\n");
+fn joined(
+    out: &mut impl Write,
+    year: i64,
+    month: i64,
+    day: i64,
+    hour: i64,
+    minute: i64,
+    second: i64,
+    millisecond: i64,
+) -> io::Result<()> {
+    write!(out, "fields ")?;
+    three_numbers(out, year, month, day)?;
+    write!(out, " ")?;
+    three_numbers(out, hour, minute, second)?;
+    write!(out, " {millisecond}: instant ")?;
+    number_answer(
+        out,
+        instant::join_instant(year, month, day, hour, minute, second, millisecond),
+    )?;
+    writeln!(out)
 }
 
 // An index, its answer, and what its days are then; they begin as 7.
-fn index(instants: &[i64], days: &mut [i32]) {
-    text(b"index");
-    spaced_numbers(instants);
-    text(b": ");
-    index_answer(instant::index_days(instants, days));
-    text(b", days");
-    spaced_days(days);
-    text(b"\n");
+fn index(out: &mut impl Write, instants: &[i64], days: &mut [i32]) -> io::Result<()> {
+    write!(out, "index")?;
+    spaced_numbers(out, instants)?;
+    write!(out, ": ")?;
+    index_answer(out, instant::index_days(instants, days))?;
+    write!(out, ", days")?;
+    spaced_days(out, days)?;
+    writeln!(out)
 }
 
-fn spaced_days(days: &[i32]) {
-    let mut i = 0;
-    while i < days.len() {
-        day(days[i]);
-        i += 1;
+fn spaced_days(out: &mut impl Write, days: &[i32]) -> io::Result<()> {
+    for day in days {
+        write!(out, " {day}")?;
     }
+    Ok(())
 }
 
-fn day(n: i32) {
-    text(b" ");
-    number(n as i64);
-}
-
-fn empty_index() {
-    text(b"index of no instants: ");
+fn empty_index(out: &mut impl Write) -> io::Result<()> {
+    write!(out, "index of no instants: ")?;
     let instants = [0i64; 1];
     let mut days = [0i32; 1];
-    index_answer(instant::index_days(&instants[..0], &mut days[..0]));
-    text(b"\n");
+    index_answer(out, instant::index_days(&instants[..0], &mut days[..0]))?;
+    writeln!(out)
 }
 
-fn uneven_index() {
-    text(b"index of one instant with two days: ");
+fn uneven_index(out: &mut impl Write) -> io::Result<()> {
+    write!(out, "index of one instant with two days: ")?;
     let instants = [0i64; 1];
     let mut days = [0i32; 2];
-    index_answer(instant::index_days(&instants, &mut days));
-    text(b"\n");
+    index_answer(out, instant::index_days(&instants, &mut days))?;
+    writeln!(out)
 }
 
-fn index_answer(answer: IndexAnswer) {
+fn index_answer(out: &mut impl Write, answer: IndexAnswer) -> io::Result<()> {
     match answer {
-        IndexAnswer::Written(n) => {
-            text(b"written ");
-            natural(n as u64);
-        }
-        IndexAnswer::Refused(r) => refused(r),
+        IndexAnswer::Written(n) => write!(out, "written {n}"),
+        IndexAnswer::Refused(r) => refused(out, r),
         IndexAnswer::RefusedAt(r, place) => {
-            refused(r);
-            text(b" at ");
-            natural(place as u64);
+            refused(out, r)?;
+            write!(out, " at {place}")
         }
     }
 }

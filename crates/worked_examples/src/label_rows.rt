@@ -5,77 +5,89 @@ use super::show::read_row;
 use super::writing;
 use super::writing::Writer;
 use labels::rfc3339::LENGTH;
+use std::io;
+use std::io::Write;
 
-pub fn run() {
-    written(1683729000000);
-    written(-1);
-    written(-62167219200000);
-    written(-62167219200001);
-    written(253402300799999);
-    written(253402300800000);
-    written(-1071989683200001);
-    written(947655244800000);
-    short(0);
-    short(253402300800000);
-    short(947655244800000);
-    read(b"2023-05-10T14:30:00.000Z");
-    read(b"1969-12-31T23:59:59.999Z");
-    read(b"2016-12-31T23:59:60.000Z");
-    read(b"2023-13-99T99:99:99.999Z");
-    read(b"1900-02-29T24:00:00.000Z");
-    read(b"2023-05-10t14:30:00.000z");
-    read(b"2023-05-10T14:30:00.000z");
-    read(b"2023-05-10z14:30:00.000z");
-    read(b"2023-05-10t14:30:00.000t");
-    read(b"2023-05-10T14:30:00.00Z");
-    position(0);
-    position(359999999999);
-    position(4287767296);
-    position(-1);
-    position(360000000000);
-    short_position(4287767296);
+pub fn run(out: &mut impl Write) -> io::Result<()> {
+    written(out, 1683729000000)?;
+    written(out, -1)?;
+    written(out, -62167219200000)?;
+    written(out, -62167219200001)?;
+    written(out, 253402300799999)?;
+    written(out, 253402300800000)?;
+    written(out, -1071989683200001)?;
+    written(out, 947655244800000)?;
+    short(out, 0)?;
+    short(out, 253402300800000)?;
+    short(out, 947655244800000)?;
+    read(out, b"2023-05-10T14:30:00.000Z")?;
+    read(out, b"1969-12-31T23:59:59.999Z")?;
+    read(out, b"2016-12-31T23:59:60.000Z")?;
+    read(out, b"2023-13-99T99:99:99.999Z")?;
+    read(out, b"1900-02-29T24:00:00.000Z")?;
+    read(out, b"2023-05-10t14:30:00.000z")?;
+    read(out, b"2023-05-10T14:30:00.000z")?;
+    read(out, b"2023-05-10z14:30:00.000z")?;
+    read(out, b"2023-05-10t14:30:00.000t")?;
+    read(out, b"2023-05-10T14:30:00.00Z")?;
+    position(out, 0)?;
+    position(out, 359999999999)?;
+    position(out, 4287767296)?;
+    position(out, -1)?;
+    position(out, 360000000000)?;
+    short_position(out, 4287767296)?;
+    Ok(())
 }
 
-fn written(instant: i64) {
+fn written(out: &mut impl Write, instant: i64) -> io::Result<()> {
     writing::row(
+        out,
         Writer::Instant,
-        b"instant ",
+        "instant ",
         instant,
-        b": label ",
+        ": label ",
         &mut [b'?'; LENGTH],
-    );
+    )
 }
 
-fn short(instant: i64) {
+fn short(out: &mut impl Write, instant: i64) -> io::Result<()> {
     writing::row(
+        out,
         Writer::Instant,
-        b"instant ",
+        "instant ",
         instant,
-        b" in 23 bytes: label ",
+        " in 23 bytes: label ",
         &mut [b'?'; 23],
-    );
+    )
 }
 
-fn read(label: &[u8]) {
-    read_row(label, b": instant ", labels::rfc3339::read_instant(label));
+fn read(out: &mut impl Write, label: &[u8]) -> io::Result<()> {
+    read_row(
+        out,
+        label,
+        ": instant ",
+        labels::rfc3339::read_instant(label),
+    )
 }
 
-fn position(position: i64) {
+fn position(out: &mut impl Write, position: i64) -> io::Result<()> {
     writing::row(
+        out,
         Writer::Position,
-        b"position ",
+        "position ",
         position,
-        b": ",
+        ": ",
         &mut [b'?'; 16],
-    );
+    )
 }
 
-fn short_position(position: i64) {
+fn short_position(out: &mut impl Write, position: i64) -> io::Result<()> {
     writing::row(
+        out,
         Writer::Position,
-        b"position ",
+        "position ",
         position,
-        b" in 13 bytes: ",
+        " in 13 bytes: ",
         &mut [b'?'; 13],
-    );
+    )
 }

@@ -13,12 +13,17 @@ mod timing_rows;
 mod week_rows;
 mod writing;
 
-fn main() {
-    calendar_rows::run();
-    week_rows::run();
-    instant_rows::run();
-    label_rows::run();
-    timing_rows::run();
-    constants_rows::run();
-    clock_rows::run();
+use std::io;
+use std::io::{BufWriter, Write};
+
+fn main(rt: HostRuntime) -> io::Result<()> {
+    let mut out = BufWriter::new(rt.alloc(), rt.stdout())?;
+    calendar_rows::run(&mut out)?;
+    week_rows::run(&mut out)?;
+    instant_rows::run(&mut out)?;
+    label_rows::run(&mut out)?;
+    timing_rows::run(&mut out)?;
+    constants_rows::run(&mut out)?;
+    clock_rows::run(&mut out)?;
+    out.flush()
 }

@@ -1,100 +1,81 @@
-// Answers in words and numbers, on standard output.
+// Answers in words and numbers.
 
 use calendar::{DateAnswer, FlagAnswer};
 use refusal::{NumberAnswer, Refusal, WriteAnswer};
-
-pub fn text(words: &[u8]) {
-    io::write_all(libc::STDOUT_FILENO, words);
-}
-
-pub fn number(n: i64) {
-    if n < 0 {
-        text(b"-");
-        natural((-1 - n) as u64 + 1);
-    } else {
-        natural(n as u64);
-    }
-}
+use std::io;
+use std::io::Write;
 
 // Each number, with a blank before it.
-pub fn spaced_numbers(list: &[i64]) {
-    let mut i = 0;
-    while i < list.len() {
-        text(b" ");
-        number(list[i]);
-        i += 1;
+pub fn spaced_numbers(out: &mut impl Write, list: &[i64]) -> io::Result<()> {
+    for n in list {
+        write!(out, " {n}")?;
     }
+    Ok(())
 }
 
-pub fn natural(n: u64) {
-    io::print_decimal(libc::STDOUT_FILENO, n);
+pub fn refused(out: &mut impl Write, refusal: Refusal) -> io::Result<()> {
+    write!(out, "refused {}", refusal::number(refusal))
 }
 
-pub fn refused(refusal: Refusal) {
-    text(b"refused ");
-    natural(refusal::number(refusal));
-}
-
-pub fn number_answer(answer: NumberAnswer) {
+pub fn number_answer(out: &mut impl Write, answer: NumberAnswer) -> io::Result<()> {
     match answer {
-        NumberAnswer::Value(n) => number(n),
-        NumberAnswer::Refused(r) => refused(r),
+        NumberAnswer::Value(n) => write!(out, "{n}"),
+        NumberAnswer::Refused(r) => refused(out, r),
     }
 }
 
-pub fn flag_answer(answer: FlagAnswer) {
+pub fn flag_answer(out: &mut impl Write, answer: FlagAnswer) -> io::Result<()> {
     match answer {
-        FlagAnswer::Value(flag) => yes_or_no(flag),
-        FlagAnswer::Refused(r) => refused(r),
+        FlagAnswer::Value(flag) => yes_or_no(out, flag),
+        FlagAnswer::Refused(r) => refused(out, r),
     }
 }
 
-fn yes_or_no(flag: bool) {
+fn yes_or_no(out: &mut impl Write, flag: bool) -> io::Result<()> {
     if flag {
-        text(b"yes");
+        write!(out, "yes")
     } else {
-        text(b"no");
+        write!(out, "no")
     }
 }
 
 // Three numbers, with a blank between them.
-pub fn three_numbers(a: i64, b: i64, c: i64) {
-    number(a);
-    text(b" ");
-    number(b);
-    text(b" ");
-    number(c);
+pub fn three_numbers(out: &mut impl Write, a: i64, b: i64, c: i64) -> io::Result<()> {
+    write!(out, "{a} {b} {c}")
 }
 
-pub fn date_answer(answer: DateAnswer) {
+pub fn date_answer(out: &mut impl Write, answer: DateAnswer) -> io::Result<()> {
     match answer {
-        DateAnswer::Value(date) => three_numbers(date.year, date.month, date.day),
-        DateAnswer::Refused(r) => refused(r),
+        DateAnswer::Value(date) => three_numbers(out, date.year, date.month, date.day),
+        DateAnswer::Refused(r) => refused(out, r),
     }
 }
 
 // What a row is about: a kind of number, the number and words.
-pub fn about(kind: &[u8], n: i64, words: &[u8]) {
-    text(kind);
-    number(n);
-    text(words);
+pub fn about(out: &mut impl Write, kind: &str, n: i64, words: &str) -> io::Result<()> {
+    write!(out, "{kind}{n}{words}")
 }
 
 // The row of a label that was read.
-pub fn read_row(label: &[u8], words: &[u8], answer: NumberAnswer) {
-    text(b"label ");
-    text(label);
-    text(words);
-    number_answer(answer);
-    text(b"\n");
+pub fn read_row(
+    out: &mut impl Write,
+    label: &[u8],
+    words: &str,
+    answer: NumberAnswer,
+) -> io::Result<()> {
+    write!(out, "label ")?;
+    out.write_all(label)?;
+    write!(out, "{words}")?;
+    number_answer(out, answer)?;
+    writeln!(out)
 }
 
 // What a writer answered, and what its buffer holds then.
-pub fn written_answer(answer: WriteAnswer, buffer: &[u8]) {
+pub fn written_answer(out: &mut impl Write, answer: WriteAnswer, buffer: &[u8]) -> io::Result<()> {
     match answer {
-        WriteAnswer::Written(n) => natural(n as u64),
-        WriteAnswer::Refused(r) => refused(r),
+        WriteAnswer::Written(n) => write!(out, "{n}")?,
+        WriteAnswer::Refused(r) => refused(out, r)?,
     }
-    text(b" ");
-    text(buffer);
+    write!(out, " ")?;
+    out.write_all(buffer)
 }

@@ -1,126 +1,134 @@
 // Document 02, request Seven: week dates from counts and back, and their labels; both ends of the range that request Eight gives the
 // calendar, and of the week years that have labels; and what is refused.
 
-use super::show::{about, number_answer, read_row, refused, text, three_numbers};
+use super::show::{about, number_answer, read_row, refused, three_numbers};
 use super::writing;
 use super::writing::Writer;
 use labels::iso_week::LENGTH;
+use std::io;
+use std::io::Write;
 use week::WeekAnswer;
 
-pub fn run() {
-    dates();
-    days();
-    labels();
+pub fn run(out: &mut impl Write) -> io::Result<()> {
+    dates(out)?;
+    days(out)?;
+    labels(out)?;
+    Ok(())
 }
 
-fn dates() {
-    date(19487);
-    date(18627);
-    date(18628);
-    date(-719528);
-    date(-719527);
-    date(-719526);
-    date(2932896);
-    date(2932897);
-    date(2932898);
-    date(2932899);
-    date(-12407288);
-    date(-12407289);
-    date(10968231);
-    date(10968232);
+fn dates(out: &mut impl Write) -> io::Result<()> {
+    date(out, 19487)?;
+    date(out, 18627)?;
+    date(out, 18628)?;
+    date(out, -719528)?;
+    date(out, -719527)?;
+    date(out, -719526)?;
+    date(out, 2932896)?;
+    date(out, 2932897)?;
+    date(out, 2932898)?;
+    date(out, 2932899)?;
+    date(out, -12407288)?;
+    date(out, -12407289)?;
+    date(out, 10968231)?;
+    date(out, 10968232)?;
+    Ok(())
 }
 
-fn date(days: i64) {
-    about(b"day ", days, b": week date ");
+fn date(out: &mut impl Write, days: i64) -> io::Result<()> {
+    about(out, "day ", days, ": week date ")?;
     match week::week_from_days(days) {
-        WeekAnswer::Value(w) => three_numbers(w.year, w.week, w.weekday),
-        WeekAnswer::Refused(r) => refused(r),
+        WeekAnswer::Value(w) => three_numbers(out, w.year, w.week, w.weekday)?,
+        WeekAnswer::Refused(r) => refused(out, r)?,
     }
-    text(b"\n");
+    writeln!(out)
 }
 
-fn days() {
-    day(-1, 52, 6);
-    day(-1, 52, 5);
-    day(-1, 53, 1);
-    day(9999, 52, 5);
-    day(9999, 52, 6);
-    day(9999, 52, 7);
-    day(9999, 53, 1);
-    day(10000, 1, 1);
-    day(-32001, 52, 6);
-    day(-32001, 52, 5);
-    day(-32001, 53, 1);
-    day(-32002, 1, 1);
-    day(31999, 52, 5);
-    day(31999, 52, 6);
-    day(32000, 1, 1);
-    day(2021, 53, 1);
-    day(2020, 53, 4);
-    day(2020, 0, 1);
-    day(2020, 1, 0);
-    day(2020, 1, 8);
+fn days(out: &mut impl Write) -> io::Result<()> {
+    day(out, -1, 52, 6)?;
+    day(out, -1, 52, 5)?;
+    day(out, -1, 53, 1)?;
+    day(out, 9999, 52, 5)?;
+    day(out, 9999, 52, 6)?;
+    day(out, 9999, 52, 7)?;
+    day(out, 9999, 53, 1)?;
+    day(out, 10000, 1, 1)?;
+    day(out, -32001, 52, 6)?;
+    day(out, -32001, 52, 5)?;
+    day(out, -32001, 53, 1)?;
+    day(out, -32002, 1, 1)?;
+    day(out, 31999, 52, 5)?;
+    day(out, 31999, 52, 6)?;
+    day(out, 32000, 1, 1)?;
+    day(out, 2021, 53, 1)?;
+    day(out, 2020, 53, 4)?;
+    day(out, 2020, 0, 1)?;
+    day(out, 2020, 1, 0)?;
+    day(out, 2020, 1, 8)?;
+    Ok(())
 }
 
-fn day(year: i64, week: i64, weekday: i64) {
-    text(b"week date ");
-    three_numbers(year, week, weekday);
-    text(b": count ");
-    number_answer(week::days_from_week(year, week, weekday));
-    text(b"\n");
+fn day(out: &mut impl Write, year: i64, week: i64, weekday: i64) -> io::Result<()> {
+    write!(out, "week date ")?;
+    three_numbers(out, year, week, weekday)?;
+    write!(out, ": count ")?;
+    number_answer(out, week::days_from_week(year, week, weekday))?;
+    writeln!(out)
 }
 
-fn labels() {
-    written(19487);
-    written(18627);
-    written(18628);
-    written(-719527);
-    written(-719526);
-    written(2932897);
-    written(2932898);
-    written(2932899);
-    written(-12407289);
-    written(10968232);
-    short(19487);
-    short(-719527);
-    short(10968232);
-    read(b"2023-W19-3");
-    read(b"2020-W53-4");
-    read(b"2020-W53-5");
-    read(b"2023-w19-3");
-    read(b"2023-W00-1");
-    read(b"2023-W01-0");
-    read(b"2023-W01-8");
-    read(b"2023-W01-9");
-    read(b"-001-W52-6");
-    read(b"9999-W52-6");
-    read(b"9999-W52-7");
-    read(b"9999-W53-1");
-    read(b"0000-W01-1");
-    read(b"2023-W1-3");
-    read(b"10000-W01-1");
+fn labels(out: &mut impl Write) -> io::Result<()> {
+    written(out, 19487)?;
+    written(out, 18627)?;
+    written(out, 18628)?;
+    written(out, -719527)?;
+    written(out, -719526)?;
+    written(out, 2932897)?;
+    written(out, 2932898)?;
+    written(out, 2932899)?;
+    written(out, -12407289)?;
+    written(out, 10968232)?;
+    short(out, 19487)?;
+    short(out, -719527)?;
+    short(out, 10968232)?;
+    read(out, b"2023-W19-3")?;
+    read(out, b"2020-W53-4")?;
+    read(out, b"2020-W53-5")?;
+    read(out, b"2023-w19-3")?;
+    read(out, b"2023-W00-1")?;
+    read(out, b"2023-W01-0")?;
+    read(out, b"2023-W01-8")?;
+    read(out, b"2023-W01-9")?;
+    read(out, b"-001-W52-6")?;
+    read(out, b"9999-W52-6")?;
+    read(out, b"9999-W52-7")?;
+    read(out, b"9999-W53-1")?;
+    read(out, b"0000-W01-1")?;
+    read(out, b"2023-W1-3")?;
+    read(out, b"10000-W01-1")?;
+    Ok(())
 }
 
-fn written(days: i64) {
+fn written(out: &mut impl Write, days: i64) -> io::Result<()> {
     writing::row(
+        out,
         Writer::Week,
-        b"day ",
+        "day ",
         days,
-        b": label ",
+        ": label ",
         &mut [b'?'; LENGTH],
-    );
+    )
 }
 
-fn short(days: i64) {
+fn short(out: &mut impl Write, days: i64) -> io::Result<()> {
     writing::row(
+        out,
         Writer::Week,
-        b"day ",
+        "day ",
         days,
-        b" in 9 bytes: label ",
+        " in 9 bytes: label ",
         &mut [b'?'; 9],
-    );
+    )
 }
 
-fn read(label: &[u8]) {
-    read_row(label, b": day ", labels::iso_week::read_week(label));
+fn read(out: &mut impl Write, label: &[u8]) -> io::Result<()> {
+    read_row(out, label, ": day ", labels::iso_week::read_week(label))
 }

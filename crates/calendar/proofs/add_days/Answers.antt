@@ -11,7 +11,6 @@ use Rattle.refusal.specs.Outcome.{number_outcome, value}
 use lib.IntN.{ℤ, ◌+ℤ◌}
 use mathlib.Core.Bool.{Bool, false}
 use mathlib.Core.Path.{◌≡◌, sym, ap, ◌∙◌}
-use borrow.Author.Rules.{rules}
 use Rattle.calendar.proofs.add_days.Goals as goal
 use Rattle.calendar.proofs.add_days.Goals.{After-days_from_civil, After-outside, Else-outside, In-Value, Start}
 

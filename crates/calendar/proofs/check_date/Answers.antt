@@ -11,7 +11,6 @@ use lib.IntN.{ℤ, pos, nat_abs}
 use borrow.Author.Tests.{not-true, not-false}
 use mathlib.Core.Bool.{false}
 use mathlib.Core.Path.{◌≡◌, sym, ◌∙◌}
-use borrow.Author.Rules.{rules}
 use Rattle.calendar.proofs.check_date.Goals as goal
 use Rattle.calendar.proofs.check_date.Goals.{Else-not-has_day, Else-outside-2, Start}
 

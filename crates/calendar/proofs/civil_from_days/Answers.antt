@@ -1,6 +1,5 @@
 use mathlib.Core.Path.{sym, ap, ◌∙◌}
 use mir.Facts.{to_z-of_z}
-use borrow.Author.Rules.{rules}
 use Rattle.calendar.specs.Count.{date_of_count}
 use Rattle.calendar.proofs.Counts.{count_refused, count_answered}
 use Rattle.calendar.proofs.civil_from_days.Goals as goal

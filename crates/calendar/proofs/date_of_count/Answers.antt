@@ -1,4 +1,3 @@
-use borrow.Author.Rules.{rules}
 use Rattle.calendar.proofs.Counts.{counted_date}
 use Rattle.calendar.proofs.date_of_count.Goals as goal
 

@@ -1,7 +1,6 @@
 use mathlib.Core.Path.{ap, ◌∙◌, subst}
 use native.Mathlib.Omega.{arith}
 use lib.IntN.{pos, ◌+ℤ◌, +ℤ_comm}
-use borrow.Author.Rules.{rules}
 use Rattle.refusal.specs.Outcome.{value}
 use Rattle.numbers.proofs.Machine.{add_first, add_first_is}
 use Rattle.calendar.specs.Count.{count_of_date}

@@ -7,7 +7,6 @@ use Rattle.refusal.specs.Outcome.{value}
 use mir.Facts.{to_z-of_z}
 use lib.Dec.{eqb}
 use mathlib.Core.Path.{sym, ap, ◌∙◌}
-use borrow.Author.Rules.{rules}
 use Rattle.calendar.proofs.is_leap.Goals as goal
 
 pub returns-then-outside : goal.returns-then-outside

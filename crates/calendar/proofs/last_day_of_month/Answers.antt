@@ -6,7 +6,6 @@ use Rattle.calendar.specs.Range.{first_year, last_year}
 use Rattle.numbers.proofs.Machine.{answered}
 use mir.Facts.{to_z-of_z}
 use mathlib.Core.Path.{sym, ap, ◌∙◌}
-use borrow.Author.Rules.{rules}
 use Rattle.calendar.proofs.last_day_of_month.Goals as goal
 
 pub returns-then-outside : goal.returns-then-outside

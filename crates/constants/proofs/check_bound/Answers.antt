@@ -1,7 +1,6 @@
 use mathlib.Core.Path.{sym, ◌∙◌}
 use native.Mathlib.Omega.{arith}
 use lib.IntN.{pos}
-use borrow.Author.Rules.{rules}
 use mir.Facts.{to_z-of_z}
 use Rattle.constants.specs.Limits.{last_bound}
 use Rattle.constants.specs.Allowed.{Tests, Passed}
@@ -34,9 +33,13 @@ pub differ-requires : goal.differ-requires
 differ-requires c = let p = inside c.before.before in (p.limits_kept, p.end_le)
 
 pub returns-then-differ : goal.returns-then-differ
-returns-then-differ c = record { answer = claim_here (inside c.before.before.before.before) c.least_difference-n.ensures c.if-n-bound.false
-    (sym c.if-differ.true ∙ c.differ.ensures) }
+returns-then-differ c = record {
+  answer = claim_here (inside c.before.before.before.before) c.least_difference-n.ensures c.if-n-bound.false
+      (sym c.if-differ.true ∙ c.differ.ensures);
+}
 
 pub returns-else-differ : goal.returns-else-differ
-returns-else-differ c = record { answer = claim_here (inside c.before.before.before.before) c.least_difference-n.ensures c.if-n-bound.false
-    (sym c.if-differ.false ∙ c.differ.ensures) }
+returns-else-differ c = record {
+  answer = claim_here (inside c.before.before.before.before) c.least_difference-n.ensures c.if-n-bound.false
+      (sym c.if-differ.false ∙ c.differ.ensures);
+}

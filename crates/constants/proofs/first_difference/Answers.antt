@@ -1,6 +1,5 @@
 use native.Mathlib.Omega.{arith}
 use lib.IntN.{pos}
-use borrow.Author.Rules.{rules}
 use mir.Facts.{to_z-of_z}
 use Rattle.constants.specs.Limits.{last_end}
 use Rattle.constants.specs.Allowed.{Tests, Passed}

@@ -1,5 +1,4 @@
 use mathlib.Core.Path.{sym}
-use borrow.Author.Rules.{rules}
 use Rattle.day_table.proofs.Rule.{past_year, day_at_lem}
 use Rattle.day_table.proofs.day.Goals as goal
 

@@ -1,6 +1,5 @@
 use mathlib.Core.Path.{sym}
 use native.Mathlib.Omega.{arith}
-use borrow.Author.Rules.{rules}
 use Rattle.day_table.proofs.Rule.{past_year, month_is, month_late, month_early}
 use Rattle.day_table.proofs.month.Goals as goal
 

@@ -1,5 +1,4 @@
 use mathlib.Core.Path.{◌∙◌}
-use borrow.Author.Rules.{rules}
 use Rattle.day_table.proofs.Rule.{rule}
 use Rattle.day_table.proofs.month_and_day.Goals as goal
 

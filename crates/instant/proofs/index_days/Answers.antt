@@ -6,7 +6,6 @@ use native.Mathlib.Omega.{arith}
 use lib.ListN.{length}
 use Rattle.instant.specs.Answers.{first_bad}
 use mathlib.Core.Path.{◌≡◌, sym, ap, ◌∙◌}
-use borrow.Author.Rules.{rules}
 use Rattle.instant.proofs.index_days.Goals as goal
 
 -- Each way out is decided by the tests that led there.

@@ -1,7 +1,6 @@
 use mathlib.Core.Path.{◌≡◌, sym, ap}
 use Rattle.refusal.specs.Numbers.{refusal_number}
 use Rattle.refusal.specs.declared.Refusal.{Refusal}
-use borrow.Author.Rules.{rules}
 use Rattle.refusal.proofs.number.Goals as goal
 
 -- the number of the refusal that a case stands for

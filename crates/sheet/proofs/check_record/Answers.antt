@@ -1,6 +1,5 @@
 use mathlib.Core.Path.{sym, ap, ◌∙◌}
 use mir.Facts.{to_z-of_z}
-use borrow.Author.Rules.{rules}
 use Rattle.sheet.specs.Answers.{record_outcome, record_answer}
 use Rattle.sheet.proofs.Trailer.{no_check, check_in}
 use Rattle.sheet.proofs.check_record.Goals as goal

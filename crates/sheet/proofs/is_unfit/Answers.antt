@@ -1,5 +1,4 @@
 use native.Mathlib.Omega.{arith}
-use borrow.Author.Rules.{rules}
 use Rattle.sheet.proofs.Fitting.{few_numbers, part_or_many_lem, whole_records}
 use Rattle.sheet.proofs.is_unfit.Goals as goal
 

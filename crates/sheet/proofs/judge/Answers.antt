@@ -1,5 +1,4 @@
 use mathlib.Core.Path.{◌∙◌}
-use borrow.Author.Rules.{rules}
 use Rattle.constants.specs.Answers.{bound_answer}
 use Rattle.sheet.specs.Answers.{verdict}
 use Rattle.sheet.proofs.NumberBytes.{number_cast}

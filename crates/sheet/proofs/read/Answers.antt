@@ -1,5 +1,4 @@
 use native.Mathlib.Omega.{arith}
-use borrow.Author.Rules.{rules}
 use Rattle.sheet.proofs.Trailer.{length_in, bad_length_lem, bad_trailer, good_trailer}
 use Rattle.sheet.proofs.read.Goals as goal
 

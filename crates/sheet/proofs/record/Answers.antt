@@ -1,6 +1,5 @@
 use mathlib.Core.Path.{sym, ap, ◌∙◌}
 use mir.Facts.{to_z-of_z}
-use borrow.Author.Rules.{rules}
 use Rattle.sheet.specs.Answers.{read_outcome, record_in_place}
 use Rattle.sheet.proofs.Trailer.{no_records, record_in}
 use Rattle.sheet.proofs.record.Goals as goal

@@ -1,5 +1,4 @@
 use mathlib.Core.Path.{sym, ap, ◌∙◌}
-use borrow.Author.Rules.{rules}
 use Rattle.refusal.specs.Outcome.{value}
 use Rattle.text.proofs.Writing.{renamed}
 use Rattle.sheet.specs.Answers.{read_outcome}

@@ -2,7 +2,6 @@ use mathlib.Core.Path.{◌≡◌, sym, ◌∙◌}
 use mathlib.Core.Bool.{false}
 use native.Mathlib.Omega.{arith}
 use lib.ListN.{length}
-use borrow.Author.Rules.{rules}
 use Rattle.text.proofs.Writing.{renamed, nothing_written, no_room, all_written}
 use Rattle.sheet.specs.Sheet.{sheet_bytes}
 use Rattle.sheet.specs.Answers.{unfit}

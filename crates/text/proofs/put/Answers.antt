@@ -1,6 +1,5 @@
 use mathlib.Core.Path.{refl}
 use native.Mathlib.Omega.{arith}
-use borrow.Author.Rules.{rules}
 use Rattle.text.proofs.Filled.{room_le, not_put, all_put}
 use Rattle.text.proofs.put.Goals as goal
 

@@ -1,6 +1,5 @@
 use mathlib.Core.Path.{ap, ◌∙◌, sym}
 use native.Mathlib.Omega.{arith}
-use borrow.Author.Rules.{rules}
 use Rattle.text.specs.Decimal.{decimal}
 use Rattle.text.specs.Filled.{filled}
 use Rattle.text.proofs.Filled.{room_le, not_put, all_put}

@@ -1,5 +1,4 @@
 use mathlib.Core.Path.{ap, ◌∙◌}
-use borrow.Author.Rules.{rules}
 use lib.Seq.{take-length}
 use Rattle.text.specs.Filled.{filled}
 use Rattle.text.proofs.store.Goals as goal

@@ -1,7 +1,6 @@
 use Prim.Native.Nat.{◌+◌}
 use mathlib.Core.Path.{ap, ◌∙◌}
 use native.Mathlib.Omega.{arith}
-use borrow.Author.Rules.{rules}
 use Rattle.text.specs.Words.{part_of}
 use Rattle.text.specs.Filled.{filled}
 use Rattle.text.proofs.Words.{part_length}

@@ -1,8 +1,7 @@
-use Prim.Native.Nat.{◌+◌, ◌-◌, ◌≤◌}
-use mathlib.Core.Path.{◌≡◌, refl, ap, ◌∙◌}
+use Prim.Native.Nat.{◌+◌}
+use mathlib.Core.Path.{refl, ap, ◌∙◌}
 use native.Mathlib.Omega.{arith}
 use lib.ListN.{length, take}
-use Rattle.text.specs.Filled.{filled}
 use Rattle.text.proofs.Filled.{filled_length, filled_nothing, filled_front_part, filled_last_part}
 use Rattle.text.proofs.store_blocks.Goals as goal
 

@@ -1,11 +1,8 @@
-use Prim.Native.Nat.{suc, ◌+◌, ◌-◌, ◌/◌, ◌^◌, ◌≤◌}
-use mathlib.Core.Path.{◌≡◌, refl, sym, ap, ap₂, ◌∙◌}
-use native.Mathlib.Omega.{arith}
+use Prim.Native.Nat.{◌+◌, ◌-◌, ◌/◌, ◌^◌, ◌≤◌}
+use mathlib.Core.Path.{◌≡◌}
 use lib.ListN.{length}
 use Rattle.text.specs.Decimal.{digits}
 use Rattle.text.specs.Filled.{filled}
-use Rattle.text.proofs.Filled.{filled_length, filled_nothing}
-use Rattle.text.proofs.Decimal.{digit_stored, less_tens}
 use Rattle.text.proofs.store_digits.Given as goal
 
 abbrev pub invariant-loop-i : goal.invariant-loop-i

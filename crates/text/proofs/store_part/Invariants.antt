@@ -1,11 +1,8 @@
-use Prim.Native.Nat.{◌+◌, ◌-◌, ◌≤◌}
-use mathlib.Core.Path.{◌≡◌, refl, sym, ap, ◌∙◌}
-use native.Mathlib.Omega.{arith}
-use lib.ListN.{length, get_or, set}
+use Prim.Native.Nat.{◌-◌, ◌≤◌}
+use mathlib.Core.Path.{◌≡◌}
+use lib.ListN.{length}
 use Rattle.text.specs.Words.{part_of}
 use Rattle.text.specs.Filled.{filled}
-use Rattle.text.proofs.Words.{part_length, part_more}
-use Rattle.text.proofs.Filled.{filled_length, filled_nothing, filled_byte}
 use Rattle.text.proofs.store_part.Given as goal
 
 abbrev pub invariant-loop-i : goal.invariant-loop-i

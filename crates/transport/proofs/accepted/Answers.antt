@@ -3,7 +3,6 @@ use native.Mathlib.Omega.{arith}
 use lib.IntN.{pos}
 use mir.Facts.{to_z_pos}
 use mir.Syntax.{w64}
-use borrow.Author.Rules.{rules}
 use Rattle.refusal.specs.Outcome.{value}
 use Rattle.numbers.proofs.Machine.{pos_fits}
 use Rattle.transport.specs.declared.Clock.TheVariants.{At}

@@ -4,7 +4,6 @@ use mathlib.Core.Bool.{false}
 use native.Mathlib.Omega.{arith}
 use lib.IntN.{pos, nat_abs, sub_ℕ}
 use mir.Facts.{to_z-of_z}
-use borrow.Author.Rules.{rules}
 use borrow.Author.Tests.{not-true, not-false}
 use Rattle.numbers.specs.Range.{outside}
 use Rattle.numbers.proofs.Between.{inside_pos, natural_within, cast_within, read_high}

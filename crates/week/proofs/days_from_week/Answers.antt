@@ -1,13 +1,11 @@
 use Prim.Native.Nat.{ℕ, ◌≤◌}
 use mathlib.Core.Path.{◌≡◌, sym, ap, ap₂, ◌∙◌}
-use mathlib.Core.Logic.{⊎_elim}
 use mathlib.Core.Bool.{Bool, true, false, cond, not}
 use native.Mathlib.Omega.{arith}
 use lib.IntN.{ℤ, pos, nat_abs, ◌+ℤ◌, +ℤ_comm}
 use mir.Facts.{to_z-of_z}
 use mir.Syntax.{w64}
 use mir.Val.{to_z}
-use borrow.Author.Rules.{rules}
 use borrow.Author.Tests.{not-true, not-false}
 use Rattle.refusal.specs.Outcome.{value, refused}
 use Rattle.numbers.specs.Range.{outside, Within}
@@ -76,7 +74,7 @@ returns-then-not-has_week c =
     let a = (start o).args in
     sixteen o
     (λ w d p q h. elim c.then-not-has_week.branch [
-      then-not-has_week-via-then-not-has_week t ↦ outside_weeks (weeks (y o)) a.week w (not-false _ (week_test k t.if-not-has_week.true)) p h.week_low h.week_high
+      | then-not-has_week-via-then-not-has_week t ↦ outside_weeks (weeks (y o)) a.week w (not-false _ (week_test k t.if-not-has_week.true)) p h.week_low h.week_high
       | then-not-has_week-via-else-not-has_week+then-outside-2 t ↦ outside_weeks 7 a.weekday d (answered (pos 1) (pos 7) (start o).ranges.weekday t.outside-else-not-has_week.ensures t.if-outside-2.true) q h.day_low h.day_high
     ])
 

@@ -1,10 +1,9 @@
 use Prim.Native.Nat.{ℕ, ◌+◌, ◌-◌, ◌/◌, ◌%◌, ◌^◌, ◌≤◌, ◌<◌}
 use mathlib.Core.Path.{◌≡◌, refl, sym, ap, ◌∙◌, subst}
 use native.Mathlib.Omega.{arith}
-use lib.IntN.{ℤ, pos, nat_abs, ◌+ℤ◌, +ℤ_comm}
+use lib.IntN.{pos, nat_abs, ◌+ℤ◌, +ℤ_comm}
 use mir.Facts.{to_z-of_z, to_z_pos}
 use mir.Syntax.{w64}
-use borrow.Author.Rules.{rules}
 use Rattle.numbers.specs.Range.{since}
 use Rattle.numbers.proofs.Machine.{read, pos_fits, cast_pos, add_first, add_first_is}
 use Rattle.calendar.specs.Range.{first_count, last_count}

@@ -1,5 +1,4 @@
 use mathlib.Core.Path.{sym, ◌∙◌}
-use borrow.Author.Rules.{rules}
 use Rattle.calendar.proofs.Counts.{counted_date, count_refused, count_answered}
 use Rattle.calendar.proofs.audit.civil_from_days.Goals as goal
 

@@ -2,7 +2,6 @@ use Prim.Native.Nat.{◌+◌, ◌-◌, ◌%◌}
 use mathlib.Core.Path.{◌≡◌, sym, ap, ◌∙◌}
 use native.Mathlib.Omega.{arith}
 use lib.ListN.{get_or}
-use borrow.Author.Rules.{rules}
 use Rattle.numbers.proofs.Machine.{add_first}
 use Rattle.calendar.specs.Closed.{cycle, base_year, start, public}
 use Rattle.calendar.proofs.Order.{start_step}

@@ -1,10 +1,5 @@
 use Prim.Native.Nat.{◌+◌, ◌≤◌, ◌<◌}
-use mathlib.Core.Path.{refl}
-use native.Mathlib.Omega.{arith}
-use borrow.Author.Rules.{rules}
 use Rattle.calendar.specs.Closed.{leap_day, month_days, before}
-use Rattle.calendar.proofs.Months.{year_end}
-use Rattle.calendar.proofs.YearTable.{month_before}
 use Rattle.calendar.proofs.audit.month_of.Given as goal
 
 abbrev pub invariant-loop-m : goal.invariant-loop-m

@@ -1,7 +1,6 @@
-use Prim.Native.Nat.{◌+◌, ◌-◌, ◌≤◌, ◌<◌}
+use Prim.Native.Nat.{◌+◌, ◌≤◌}
 use native.Mathlib.Omega.{arith}
-use borrow.Author.Rules.{rules}
-use Rattle.calendar.specs.Closed.{cycle_years, start}
+use Rattle.calendar.specs.Closed.{start}
 use Rattle.calendar.proofs.YearTable.{guess, not_last}
 use Rattle.calendar.proofs.audit.year_in.Goals as goal
 

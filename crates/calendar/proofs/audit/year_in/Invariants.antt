@@ -1,8 +1,5 @@
-use Prim.Native.Nat.{◌+◌, ◌-◌, ◌≤◌, ◌<◌}
-use native.Mathlib.Omega.{arith}
-use borrow.Author.Rules.{rules}
+use Prim.Native.Nat.{◌-◌, ◌≤◌, ◌<◌}
 use Rattle.calendar.specs.Closed.{cycle_years, start}
-use Rattle.calendar.proofs.YearTable.{guess, not_last}
 use Rattle.calendar.proofs.audit.year_in.Given as goal
 
 abbrev pub invariant-loop-y : goal.invariant-loop-y

@@ -1,11 +1,11 @@
-use Prim.Native.Nat.{◌+◌, ◌-◌, ◌≤◌}
+use Prim.Native.Nat.{◌+◌}
 use mathlib.Core.Path.{◌≡◌, refl}
 use native.Mathlib.Omega.{arith}
-use lib.ListN.{length, get_or, replicate}
+use lib.ListN.{get_or, replicate}
 use borrow.Author.Rules.{rules}
-use Rattle.calendar.specs.Closed.{cycle_years, start}
+use Rattle.calendar.specs.Closed.{start}
 use Rattle.calendar.proofs.Order.{start_step}
-use Rattle.calendar.proofs.YearTable.{Filled, filled_first, filled_more, start_small}
+use Rattle.calendar.proofs.YearTable.{filled_first, filled_more, start_small}
 use Rattle.calendar.proofs.audit.year_starts.Goals as goal
 use Rattle.calendar.proofs.audit.year_starts.Goals.{In-loop-y}
 

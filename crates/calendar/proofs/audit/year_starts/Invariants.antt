@@ -1,11 +1,8 @@
 use Prim.Native.Nat.{◌+◌, ◌-◌, ◌≤◌}
-use mathlib.Core.Path.{◌≡◌, refl}
-use native.Mathlib.Omega.{arith}
-use lib.ListN.{length, get_or, replicate}
-use borrow.Author.Rules.{rules}
-use Rattle.calendar.specs.Closed.{cycle_years, start}
-use Rattle.calendar.proofs.Order.{start_step}
-use Rattle.calendar.proofs.YearTable.{Filled, filled_first, filled_more, start_small}
+use mathlib.Core.Path.{◌≡◌}
+use lib.ListN.{length}
+use Rattle.calendar.specs.Closed.{cycle_years}
+use Rattle.calendar.proofs.YearTable.{Filled}
 use Rattle.calendar.proofs.audit.year_starts.Given as goal
 
 abbrev pub invariant-loop-y : goal.invariant-loop-y

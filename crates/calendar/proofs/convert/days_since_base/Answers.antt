@@ -2,7 +2,6 @@ use mathlib.Core.Path.{◌∙◌}
 use Rattle.calendar.proofs.Months.{table_entry}
 use Rattle.calendar.proofs.Conversion.{before_march_le, day_number_lem}
 use native.Mathlib.Omega.{arith}
-use borrow.Author.Rules.{rules}
 use Rattle.calendar.proofs.convert.days_since_base.Goals as goal
 
 pub overflow_sub-y_m : goal.overflow_sub-y_m

@@ -1,5 +1,4 @@
 use mathlib.Core.Path.{◌≡◌, refl}
-use borrow.Author.Rules.{rules}
 use Rattle.calendar.proofs.Months.{each_month}
 use Rattle.calendar.proofs.day_test.common_length.Goals as goal
 

@@ -9,10 +9,8 @@ use lib.IntN.{pos}
 use mir.Syntax.{w64}
 use mir.Val.{of_z}
 use mir.Facts.{to_z-of_z, to_z_pos}
-use borrow.Author.Tests.{not-true, not-false}
 use mathlib.Core.Bool.{Bool, true}
 use mathlib.Core.Path.{◌≡◌, sym, ap, ◌∙◌, subst}
-use borrow.Author.Rules.{rules}
 use Rattle.calendar.proofs.day_test.has_day.Goals as goal
 use Rattle.calendar.proofs.day_test.has_day.Goals.{After-outside}
 

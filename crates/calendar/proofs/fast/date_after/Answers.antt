@@ -1,5 +1,4 @@
 use native.Mathlib.Omega.{arith}
-use borrow.Author.Rules.{rules}
 use Rattle.numbers.proofs.Machine.{pos_fits}
 use Rattle.day_table.proofs.Rule.{small}
 use Rattle.calendar.proofs.DateByProducts.{year_added, date_is}

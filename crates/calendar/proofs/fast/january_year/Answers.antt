@@ -1,5 +1,4 @@
 use native.Mathlib.Omega.{arith}
-use borrow.Author.Rules.{rules}
 use Rattle.calendar.proofs.Quotients.{january_product}
 use Rattle.calendar.proofs.fast.january_year.Goals as goal
 

@@ -1,5 +1,4 @@
 use native.Mathlib.Omega.{arith}
-use borrow.Author.Rules.{rules}
 use Rattle.calendar.proofs.Quotients.{coded_is, regular_small}
 use Rattle.calendar.proofs.fast.regular.Goals as goal
 

@@ -4,7 +4,6 @@ use Rattle.calendar.specs.Closed.{month_days}
 use borrow.Author.Tests.{eq-eqb, ne_eqb}
 use mathlib.Core.Path.{◌≡◌, sym, subst}
 use Prim.Native.Nat.{ℕ, ◌≤◌}
-use borrow.Author.Rules.{rules}
 use Rattle.calendar.proofs.length_by_bits.days_of.Goals as goal
 use Rattle.calendar.proofs.length_by_bits.days_of.Goals.{Start}
 

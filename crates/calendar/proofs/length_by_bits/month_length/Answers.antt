@@ -6,7 +6,6 @@ use Rattle.numbers.specs.Range.{outside}
 use lib.IntN.{pos, nat_abs}
 use mathlib.Core.Bool.{false}
 use mathlib.Core.Path.{◌≡◌, ap, ◌∙◌}
-use borrow.Author.Rules.{rules}
 use Rattle.calendar.proofs.length_by_bits.month_length.Goals as goal
 use Rattle.calendar.proofs.length_by_bits.month_length.Goals.{Else-outside}
 

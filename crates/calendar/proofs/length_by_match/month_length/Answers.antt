@@ -13,7 +13,6 @@ use lib.IntN.{ℤ}
 use native.Mathlib.Omega.{arith}
 use mathlib.Core.Path.{◌≡◌, sym, ap, ◌∙◌}
 use Prim.Native.Nat.{ℕ, ◌*◌, ◌≤◌}
-use borrow.Author.Rules.{rules}
 use Rattle.calendar.proofs.length_by_match.month_length.Goals as goal
 use Rattle.calendar.proofs.length_by_match.month_length.Goals.{After-leap_day-leap, Start}
 

@@ -1,6 +1,5 @@
 use Prim.Native.Nat.{◌/◌, ◌%◌}
 use mathlib.Core.Path.{ap, ◌∙◌}
-use borrow.Author.Rules.{rules}
 use Rattle.calendar.proofs.DateByProducts.{parts, year_added, date_is}
 use Rattle.calendar.proofs.month_table.date_after.Goals as goal
 

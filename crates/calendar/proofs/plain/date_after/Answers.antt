@@ -5,7 +5,6 @@ use Rattle.numbers.proofs.Machine.{pos_fits}
 use Rattle.day_table.proofs.Rule.{new_year_lem}
 use Rattle.calendar.specs.Closed.{from_march}
 use Rattle.calendar.proofs.Conversion.{march_day, new_year_le, year_fits, year_adds, date_made}
-use borrow.Author.Rules.{rules}
 use Rattle.calendar.proofs.plain.date_after.Goals as goal
 
 pub overflow_add-result : goal.overflow_add-result

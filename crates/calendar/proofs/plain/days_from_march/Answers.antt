@@ -1,6 +1,5 @@
 use Rattle.calendar.proofs.Months.{march_rule, days_from_march}
 use native.Mathlib.Omega.{arith}
-use borrow.Author.Rules.{rules}
 use Rattle.calendar.proofs.plain.days_from_march.Goals as goal
 
 pub overflow_cast-result : goal.overflow_cast-result

@@ -1,6 +1,5 @@
 use Rattle.calendar.proofs.Weekdays.{by_sevenths}
 use native.Mathlib.Omega.{arith}
-use borrow.Author.Rules.{rules}
 use Rattle.calendar.proofs.weekday.after_monday.Goals as goal
 
 pub overflow_mul-result : goal.overflow_mul-result

@@ -2,7 +2,6 @@ use Rattle.calendar.specs.Gregorian.{days_before}
 use Rattle.calendar.proofs.Months.{table_entry}
 use mathlib.Core.Path.{refl}
 use native.Mathlib.Omega.{arith}
-use borrow.Author.Rules.{rules}
 use Rattle.calendar.proofs.year.days_before.Goals as goal
 
 pub overflow_cast-result : goal.overflow_cast-result

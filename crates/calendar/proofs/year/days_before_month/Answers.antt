@@ -6,7 +6,6 @@ use lib.Dec.{ltb}
 use native.Mathlib.Omega.{arith}
 use Prim.Native.Nat.{◌+◌, ◌*◌, ◌≤◌}
 use mathlib.Core.Path.{ap₂, ◌∙◌}
-use borrow.Author.Rules.{rules}
 use Rattle.calendar.proofs.year.days_before_month.Goals as goal
 use Rattle.calendar.proofs.year.days_before_month.Goals.{After-leap_day}
 

@@ -1,6 +1,5 @@
 use Rattle.calendar.proofs.Leap.{leap_le, rest_flag}
 use native.Mathlib.Omega.{arith}
-use borrow.Author.Rules.{rules}
 use Rattle.calendar.proofs.year.leap_day.Goals as goal
 
 pub returns : goal.returns

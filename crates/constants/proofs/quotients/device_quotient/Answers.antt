@@ -1,6 +1,5 @@
 use mathlib.Core.Path.{refl}
 use native.Mathlib.Omega.{arith}
-use borrow.Author.Rules.{rules}
 use Rattle.constants.specs.Difference.{device_quotient}
 use Rattle.constants.proofs.Bounds.{device_sum_fits}
 use Rattle.constants.proofs.quotients.device_quotient.Goals as goal

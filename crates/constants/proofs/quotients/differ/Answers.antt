@@ -1,5 +1,4 @@
 use mathlib.Core.Path.{ap, ap₂, ◌∙◌}
-use borrow.Author.Rules.{rules}
 use lib.Dec.{ltb}
 use Rattle.constants.specs.Difference.{apart, differs}
 use Rattle.constants.proofs.quotients.differ.Goals as goal

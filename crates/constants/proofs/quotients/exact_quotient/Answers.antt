@@ -1,6 +1,5 @@
 use mathlib.Core.Path.{refl}
 use native.Mathlib.Omega.{arith}
-use borrow.Author.Rules.{rules}
 use Rattle.constants.specs.Difference.{exact_quotient}
 use Rattle.constants.proofs.Bounds.{exact_sum_fits}
 use Rattle.constants.proofs.quotients.exact_quotient.Goals as goal

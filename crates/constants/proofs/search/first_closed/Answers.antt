@@ -2,7 +2,6 @@ use mathlib.Core.Path.{sym, subst}
 use native.Mathlib.Nat.{mul-le-mul, pos_of_ne-zero}
 use native.Mathlib.Omega.{arith}
 use lib.Dec.{lit<}
-use borrow.Author.Rules.{rules}
 use Rattle.constants.specs.Residues.{IsLeast, Closed}
 use Rattle.constants.proofs.Gaps.{none_closed, some_closed, closing_lt, first_closed}
 use Rattle.constants.proofs.search.first_closed.Goals as goal

@@ -1,7 +1,6 @@
-use Prim.Native.Nat.{◌+◌, ◌-◌, ◌≤◌, ◌<◌}
+use Prim.Native.Nat.{◌+◌}
 use mathlib.Core.Path.{◌≡◌}
 use native.Mathlib.Omega.{arith}
-use Rattle.constants.specs.Residues.{SomeGap}
 use Rattle.constants.proofs.Gaps.{some_within, none_within, least_residue}
 use Rattle.constants.proofs.search.first_within.Goals as goal
 

@@ -1,8 +1,5 @@
-use Prim.Native.Nat.{◌+◌, ◌-◌, ◌≤◌, ◌<◌}
-use mathlib.Core.Path.{◌≡◌}
-use native.Mathlib.Omega.{arith}
+use Prim.Native.Nat.{◌-◌, ◌≤◌, ◌<◌}
 use Rattle.constants.specs.Residues.{SomeGap}
-use Rattle.constants.proofs.Gaps.{some_within, none_within, least_residue}
 use Rattle.constants.proofs.search.first_within.Given as goal
 
 abbrev pub invariant-loop-low : goal.invariant-loop-low

@@ -2,7 +2,6 @@ use Prim.Native.Nat.{ℕ, ◌-◌, ◌*◌, ◌%◌, ◌^◌}
 use mathlib.Core.Bool.{true, false}
 use mathlib.Core.Path.{◌≡◌, ap, ◌∙◌}
 use native.Mathlib.Omega.{arith}
-use borrow.Author.Rules.{rules}
 use Rattle.constants.proofs.Arithmetic.{one_shifted}
 use Rattle.constants.proofs.Bounds.{device_period, exact_period, sides_narrow}
 use Rattle.constants.proofs.Difference.{pull, gain_of, either_side}

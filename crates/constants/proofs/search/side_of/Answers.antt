@@ -1,10 +1,8 @@
 use Prim.Native.Nat.{◌+◌, ◌*◌, ◌/◌, ◌^◌, ◌≤◌}
 use mathlib.Core.Bool.{cond}
-use mathlib.Core.Logic.{⊎_elim}
 use mathlib.Core.Path.{◌≡◌}
 use native.Mathlib.Nat.{mul-le-mul}
 use native.Mathlib.Omega.{arith}
-use borrow.Author.Rules.{rules}
 use Rattle.constants.specs.Limits.{last_b, last_k, last_t}
 use Rattle.constants.proofs.Bounds.{power_le, first_le, above_hi}
 use Rattle.constants.proofs.search.side_of.Lts as lts

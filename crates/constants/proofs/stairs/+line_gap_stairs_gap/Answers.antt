@@ -1,10 +1,9 @@
 -- A call of both is a step of Euclid's algorithm, and the width falls.
-use Prim.Native.Nat.{ℕ, ◌+◌, ◌-◌, ◌*◌, ◌<◌}
 use mathlib.Core.Path.{sym, subst, ◌∙◌}
 use native.Mathlib.Nat.{mod-lt}
 use native.Mathlib.Omega.{arith}
 use Rattle.constants.specs.Stairs.{LeastValue}
-use Rattle.constants.proofs.Turns.{stairs_turned, stairs_up, turned_sizes, whole_hi, part_hi, steps_hi, rest_hi, line_one, line_never, line_no_step, line_reached, line_turned, next_sizes}
+use Rattle.constants.proofs.Turns.{stairs_turned, turned_sizes, whole_hi, part_hi, steps_hi, rest_hi, line_one, line_never, line_no_step, line_reached, line_turned, next_sizes}
 use Rattle.constants.proofs.stairs.+line_gap_stairs_gap.Goals as goal
 
 pub line_gap-returns-then-end-eq1 : goal.line_gap-returns-then-end-eq1
@@ -40,11 +39,10 @@ line_gap-returns-then-gap-eq0 t c =
     subst (LeastValue _ _) (sym e ∙ c.if-gap-eq0.true) (line_reached c.requires c.if-slope-whole.false (sym e ∙ c.if-gap-eq0.true))
 
 pub line_gap-stairs_gap-earlier-requires : goal.line_gap-stairs_gap-earlier-requires
-line_gap-stairs_gap-earlier-requires t c =
-    (
-      omega (arith, mod-lt c.args.rise {m = c.args.width} (omega (arith, c.requires.start_lt)), c.requires),
-      next_sizes c.requires c.if-slope-whole.false c.if-steps-eq0.false,
-    )
+line_gap-stairs_gap-earlier-requires t c = (
+  omega (arith, mod-lt c.args.rise {m = c.args.width} (omega (arith, c.requires.start_lt)), c.requires),
+  next_sizes c.requires c.if-slope-whole.false c.if-steps-eq0.false,
+)
 
 pub line_gap-returns : goal.line_gap-returns
 line_gap-returns t c =

@@ -7,8 +7,8 @@ use mir.Facts.{to_z-of_z}
 use mir.Val.{SFits, to_z}
 use mir.Syntax.{w64}
 use lib.IntN.{ℤ, pos}
-use lib.ListN.{length, get_or, drop}
-use Prim.Native.Nat.{◌+◌, ◌-◌, ◌≤◌}
+use lib.ListN.{get_or, drop}
+use Prim.Native.Nat.{◌+◌}
 use native.Mathlib.Omega.{arith}
 use mathlib.Core.List.{[], ◌∷◌, ◌++◌}
 use mathlib.Core.Path.{◌≡◌, refl, sym, ap, ◌∙◌}

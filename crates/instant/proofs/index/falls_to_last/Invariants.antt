@@ -1,18 +1,9 @@
 use Rattle.instant.specs.Units.{last_instant}
 use Rattle.instant.specs.Checked.{falls_from}
-use Rattle.instant.proofs.Falls.{compared}
-use Rattle.instant.proofs.Faults.{falls_here, falls_later, falls_end}
-use Rattle.numbers.proofs.Machine.{read}
-use mir.Facts.{to_z-of_z}
-use mir.Val.{SFits, to_z}
-use mir.Syntax.{w64}
-use lib.IntN.{ℤ, pos}
-use lib.ListN.{length, get_or, drop}
-use Prim.Native.Nat.{◌+◌, ◌-◌, ◌≤◌}
-use native.Mathlib.Omega.{arith}
+use lib.ListN.{length, drop}
+use Prim.Native.Nat.{◌-◌, ◌≤◌}
 use mathlib.Core.List.{[], ◌∷◌, ◌++◌}
-use mathlib.Core.Path.{◌≡◌, refl, sym, ap, ◌∙◌}
-use borrow.Author.Rules.{rules}
+use mathlib.Core.Path.{◌≡◌}
 use Rattle.instant.proofs.index.falls_to_last.Given as goal
 
 abbrev pub invariant-loop-i : goal.invariant-loop-i

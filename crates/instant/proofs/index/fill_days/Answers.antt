@@ -2,12 +2,11 @@ use Rattle.instant.specs.Instant.{day_of}
 use Rattle.instant.proofs.Lists.{filled}
 use Rattle.instant.proofs.Blocks.{part_length, part_in_range, part_never_falls, filled_part}
 use lib.ListN.{length, take, drop, length-map}
-use lib.Seq.{paste, paste-zero}
+use lib.Seq.{paste-zero}
 use Prim.Native.Nat.{◌+◌, ◌-◌, ◌≤◌}
 use native.Mathlib.Omega.{arith}
 use mathlib.Core.List.{map}
 use mathlib.Core.Path.{◌≡◌, refl, sym, ap, ◌∙◌}
-use borrow.Author.Rules.{rules}
 use borrow.Rule.Slice.PartMut.{put_mid}
 use Rattle.instant.proofs.index.fill_days.Goals as goal
 

@@ -1,14 +1,9 @@
 use Rattle.instant.specs.Instant.{day_of}
-use Rattle.instant.proofs.Lists.{filled}
-use Rattle.instant.proofs.Blocks.{part_length, part_in_range, part_never_falls, filled_part}
-use lib.ListN.{length, take, drop, length-map}
-use lib.Seq.{paste, paste-zero}
-use Prim.Native.Nat.{◌+◌, ◌-◌, ◌≤◌}
-use native.Mathlib.Omega.{arith}
+use lib.ListN.{length}
+use lib.Seq.{paste}
+use Prim.Native.Nat.{◌-◌, ◌≤◌}
 use mathlib.Core.List.{map}
-use mathlib.Core.Path.{◌≡◌, refl, sym, ap, ◌∙◌}
-use borrow.Author.Rules.{rules}
-use borrow.Rule.Slice.PartMut.{put_mid}
+use mathlib.Core.Path.{◌≡◌}
 use Rattle.instant.proofs.index.fill_days.Given as goal
 
 abbrev pub invariant-loop-i : goal.invariant-loop-i

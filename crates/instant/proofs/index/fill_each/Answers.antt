@@ -7,8 +7,7 @@ use mir.Val.{SFits, to_z, of_z}
 use mir.Syntax.{w32, w64}
 use lib.IntN.{ℤ, pos}
 use lib.ListN.{length, get_or, set, length-set, length-map, get_or-map}
-use lib.Seq.{paste, paste-zero}
-use Prim.Native.Nat.{◌-◌, ◌≤◌}
+use lib.Seq.{paste-zero}
 use native.Mathlib.Omega.{arith}
 use mathlib.Core.List.{List, map}
 use mathlib.Core.Path.{◌≡◌, refl, sym, ap, ◌∙◌, subst}

@@ -1,18 +1,9 @@
 use Rattle.instant.specs.Instant.{day_of}
-use Rattle.instant.proofs.Lists.{filled_one, filled}
-use Rattle.instant.proofs.Ranges.{day_fits}
-use Rattle.numbers.proofs.Machine.{read}
-use mir.Facts.{to_z-of_z}
-use mir.Val.{SFits, to_z, of_z}
-use mir.Syntax.{w32, w64}
-use lib.IntN.{ℤ, pos}
-use lib.ListN.{length, get_or, set, length-set, length-map, get_or-map}
-use lib.Seq.{paste, paste-zero}
+use lib.ListN.{length}
+use lib.Seq.{paste}
 use Prim.Native.Nat.{◌-◌, ◌≤◌}
-use native.Mathlib.Omega.{arith}
-use mathlib.Core.List.{List, map}
-use mathlib.Core.Path.{◌≡◌, refl, sym, ap, ◌∙◌, subst}
-use borrow.Author.Rules.{rules}
+use mathlib.Core.List.{map}
+use mathlib.Core.Path.{◌≡◌}
 use Rattle.instant.proofs.index.fill_each.Given as goal
 
 abbrev pub invariant-loop-written : goal.invariant-loop-written

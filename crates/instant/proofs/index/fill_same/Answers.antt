@@ -4,12 +4,10 @@ use mir.Val.{to_z, of_z}
 use mir.Syntax.{w32}
 use lib.IntN.{ℤ, pos}
 use lib.ListN.{length, set, length-set, replicate, length-replicate, get_or-replicate}
-use lib.Seq.{paste, paste-zero}
-use Prim.Native.Nat.{◌-◌, ◌≤◌}
+use lib.Seq.{paste-zero}
 use native.Mathlib.Omega.{arith}
 use mathlib.Core.List.{List}
-use mathlib.Core.Path.{◌≡◌, refl, sym, ap, ◌∙◌}
-use borrow.Author.Rules.{rules}
+use mathlib.Core.Path.{refl, sym, ap, ◌∙◌}
 use Rattle.instant.proofs.index.fill_same.Goals as goal
 
 -- The first days are the one day, and behind them stands what the list held before.

@@ -13,7 +13,6 @@ use Prim.Native.Nat.{◌+◌, ◌-◌, ◌*◌}
 use native.Mathlib.Omega.{arith}
 use mathlib.Core.Bool.{false}
 use mathlib.Core.Path.{◌≡◌, sym, ap, ◌∙◌}
-use borrow.Author.Rules.{rules}
 use Rattle.instant.proofs.time_of_day.check_time.Goals as goal
 use Rattle.instant.proofs.time_of_day.check_time.Goals.{Else-outside, Else-outside-2, Else-outside-3, Else-outside-4, Start}
 

@@ -1,4 +1,4 @@
-use Rattle.std.proofs.Common.{◌≡◌, ◌+◌, ◌-◌, ◌≤◌, length, set, sym, refl, ap, ◌∙◌, add-one, arith, length-set}
+use Rattle.std.proofs.Common.{◌≡◌, ◌+◌, length, set, sym, refl, ap, ◌∙◌, add-one, arith, length-set}
 use Rattle.text.specs.Words.{byte_of, bytes_of}
 use Rattle.text.specs.Filled.{filled}
 use Rattle.text.proofs.Words.{length_bytes}

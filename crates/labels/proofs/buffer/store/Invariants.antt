@@ -1,8 +1,6 @@
-use Rattle.std.proofs.Common.{◌≡◌, ◌+◌, ◌-◌, ◌≤◌, length, set, sym, refl, ap, ◌∙◌, add-one, arith, length-set}
-use Rattle.text.specs.Words.{byte_of, bytes_of}
+use Rattle.std.proofs.Common.{◌≡◌, ◌-◌, ◌≤◌, length}
+use Rattle.text.specs.Words.{bytes_of}
 use Rattle.text.specs.Filled.{filled}
-use Rattle.text.proofs.Words.{length_bytes}
-use Rattle.text.proofs.Filled.{filled_length, filled_nothing, filled_byte}
 use Rattle.labels.proofs.buffer.store.Given as goal
 
 abbrev pub invariant-loop-i : goal.invariant-loop-i

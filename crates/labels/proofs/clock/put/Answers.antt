@@ -1,4 +1,4 @@
-use Rattle.std.proofs.Common.{◌+◌, ◌/◌, ◌%◌, [], ◌∷◌, ◌++◌, ap, ◌∙◌, arith, rules}
+use Rattle.std.proofs.Common.{◌+◌, ◌/◌, ◌%◌, [], ◌∷◌, ◌++◌, ap, ◌∙◌, arith}
 use Rattle.labels.specs.Clock.{colon, point}
 use Rattle.text.specs.Filled.{filled}
 use Rattle.labels.proofs.DigitWords.{pairs_stored}

@@ -1,15 +1,14 @@
-use Rattle.std.proofs.Common.{◌≡◌, ℕ, ◌+◌, ◌*◌, ◌/◌, ◌%◌, eqb, pos, ap, ◌∙◌, ⊎_elim, arith, w64, rules, eq-eqb, eqb-true}
+use Rattle.std.proofs.Common.{◌≡◌, ℕ, ◌+◌, ◌*◌, ◌/◌, ◌%◌, pos, ap, ◌∙◌, arith, w64}
 use lib.Bits.{bit_and, and_le_r}
-use borrow.Author.Tests.{not-true, not-false}
 use mir.Facts.{to_z_pos}
 use Rattle.refusal.specs.Outcome.{value}
-use Rattle.numbers.proofs.Bools.{no_both}
 use Rattle.instant.specs.Units.{per_second, per_minute}
 use Rattle.labels.specs.Words.{pairs, pair_of, number_of}
 use Rattle.labels.proofs.Rooms.{highest}
 use Rattle.labels.proofs.Thousandths.{number_small}
 use Rattle.labels.proofs.TimesOfDay.{minutes_are, small_clock, tens_small, small_tens, no_time, time_is}
 use Rattle.labels.proofs.clock.time_of_day.Goals as goal
+use Rattle.labels.proofs.clock.time_of_day.Goals.{then-minutes-gt1439-via-then-minutes-gt1439, then-minutes-gt1439-via-else-minutes-gt1439+then-clock-ne0}
 
 -- the minutes of the day as the code has them
 abbrev minutes : (p : ℕ) → ℕ
@@ -34,7 +33,10 @@ returns-then-minutes-gt1439 c =
     let v = s.args.clock in
     let n = minutes_is v c.pairs.ensures in
     no_time (pair_of v 0) (pair_of v 3) (pair_of v 6) (number_of s.args.fraction 4)
-    (λ h m k. ⊎_elim (λ t. omega (arith, n, t.taken, h, m)) (λ t. no_both (eqb (bits v) 0) (eq-eqb (bits v) 0 (small_tens s.requires.0 m k)) (not-true (eqb (bits v) 0) t.1.taken)) c.then-minutes-gt1439.branch)
+    (λ h m k. elim c.then-minutes-gt1439.branch [
+      | then-minutes-gt1439-via-then-minutes-gt1439 t ↦ omega (arith, n, t.if-minutes-gt1439.true, h, m)
+      | then-minutes-gt1439-via-else-minutes-gt1439+then-clock-ne0 t ↦ absurd (t.if-clock-ne0.true (small_tens s.requires.0 m k))
+    ])
 
 pub pair-requires : goal.pair-requires
 pair-requires c = (small_clock c.requires.0, omega arith)
@@ -46,7 +48,7 @@ returns c =
     let p = c.pairs in
     let m = minutes_is v p.ensures in
     let a = c.if-minutes-gt1439.false in
-    let t = tens_small s.requires.0 (eqb-true (bits v) 0 (not-false (eqb (bits v) 0) c.if-clock-ne0.false)) in
+    let t = tens_small s.requires.0 c.if-clock-ne0.false in
     let b = t.0 in
     let d = t.1 in
     let q = c.pair.ensures in

@@ -1,4 +1,4 @@
-use Rattle.std.proofs.Common.{arith, rules}
+use Rattle.std.proofs.Common.{arith}
 use Rattle.labels.proofs.CueRuns.{ends_at_nine, ends_at_twelve, ends_later}
 use Rattle.labels.proofs.cue.first_end.Goals as goal
 

@@ -1,5 +1,4 @@
 use Rattle.labels.proofs.CueGaps.{other_first, other_second, third_tells}
-use Rattle.std.proofs.Common.{rules}
 use Rattle.labels.proofs.cue.has_arrow.Goals as goal
 
 pub returns-then-line-at-ne45 : goal.returns-then-line-at-ne45

@@ -1,5 +1,4 @@
 use Rattle.labels.proofs.CueGaps.{gap_there, no_gap}
-use Rattle.std.proofs.Common.{rules}
 use Rattle.labels.proofs.cue.has_gap.Goals as goal
 
 pub returns-then-four_bytes-eq-SPACE_AND_ARROW : goal.returns-then-four_bytes-eq-SPACE_AND_ARROW

@@ -1,5 +1,4 @@
-use Rattle.std.proofs.Common.{◌≡◌, ◌+◌, ◌-◌, ◌≤◌, length, drop, refl, ◌∙◌, arith}
-use Rattle.labels.specs.Timings.{run}
+use Rattle.std.proofs.Common.{refl, ◌∙◌, arith}
 use Rattle.labels.proofs.CueRuns.{run_stops, run_goes_on, run_ends}
 use Rattle.labels.proofs.cue.run_end.Goals as goal
 

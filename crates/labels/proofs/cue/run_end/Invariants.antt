@@ -1,6 +1,5 @@
-use Rattle.std.proofs.Common.{◌≡◌, ◌+◌, ◌-◌, ◌≤◌, length, drop, refl, ◌∙◌, arith}
+use Rattle.std.proofs.Common.{◌≡◌, ◌+◌, ◌-◌, ◌≤◌, length, drop}
 use Rattle.labels.specs.Timings.{run}
-use Rattle.labels.proofs.CueRuns.{run_stops, run_goes_on, run_ends}
 use Rattle.labels.proofs.cue.run_end.Given as goal
 
 abbrev pub invariant-loop-i : goal.invariant-loop-i

@@ -4,9 +4,9 @@ use Rattle.calendar.specs.Closed.{leap_day, month_days, Valid, day_number, to_ye
 use Rattle.calendar.proofs.Centuries.{year_zero, month_refuses, day_refuses, valid_days}
 use Rattle.calendar.proofs.Leap.{leap_le}
 use Rattle.refusal.specs.Outcome.{value}
-use Rattle.std.proofs.Common.{◌≡◌, ℕ, ◌+◌, ◌*◌, ◌%◌, ◌^◌, ◌<◌, ◌≤◌, ap, ◌∙◌, ⊎_elim, arith, rules, ltb-false, ltb-true}
+use Rattle.std.proofs.Common.{◌≡◌, ℕ, ◌+◌, ◌*◌, ◌%◌, ◌^◌, ◌<◌, ◌≤◌, ap, ◌∙◌, arith}
 use Rattle.labels.proofs.date.day_count.Goals as goal
-use Rattle.labels.proofs.date.day_count.Goals.{After-month_entry-entry, Start}
+use Rattle.labels.proofs.date.day_count.Goals.{then-month-lt1-via-then-month-lt1, then-month-lt1-via-else-month-lt1+then-month-gt12, then-day-lt1-via-then-day-lt1, then-day-lt1-via-else-day-lt1+then-day-entry, After-month_entry-entry, Start}
 
 -- The month is tested by itself, and then the day against the length that the month's entry has; the sum is the day's number.
 -- the label's year, which is one of the range
@@ -20,7 +20,7 @@ pub returns-then-month-lt1 : goal.returns-then-month-lt1
 returns-then-month-lt1 c = let s = (goal.at.returns-then-month-lt1 c).Start in
     let a = s.args in
     month_refuses (year_of s) a.month a.day (in_range_lem s)
-    (λ lo hi. ⊎_elim (λ t. omega arith) (λ t. omega (arith, ltb-true 12 a.month t.1.taken)) c.then-month-lt1.branch)
+    (λ lo hi. elim c.then-month-lt1.branch [ then-month-lt1-via-then-month-lt1 t ↦ omega arith | then-month-lt1-via-else-month-lt1+then-month-gt12 t ↦ omega arith ])
 
 -- what is known of the month and its entry
 module _ (c : After-month_entry-entry) where
@@ -31,7 +31,7 @@ module _ (c : After-month_entry-entry) where
   month_low = c.if-month-lt1.false
 
   month_high : start.args.month ≤ 12
-  month_high = ltb-false 12 start.args.month c.if-month-gt12.false
+  month_high = c.if-month-gt12.false
 
   entry_is : c.month_entry-entry.result ≡ month_entry (leap_day (year_of start)) start.args.month
   entry_is = c.month_entry-entry.ensures.0 ∙ ap (λ l. month_entry l start.args.month) c.leap_day.ensures.0
@@ -51,7 +51,7 @@ pub returns-then-day-lt1 : goal.returns-then-day-lt1
 returns-then-day-lt1 c = let k = (goal.at.returns-then-day-lt1 c).After-month_entry-entry in
     let a = (start k).args in
     day_refuses (year_of (start k)) a.month a.day (in_range_lem (start k)) (month_low k) (month_high k)
-    (λ lo hi. ⊎_elim (λ t. omega arith) (λ t. omega (arith, ltb-true _ a.day t.1.taken, length_is k)) c.then-day-lt1.branch)
+    (λ lo hi. elim c.then-day-lt1.branch [ then-day-lt1-via-then-day-lt1 t ↦ omega arith | then-day-lt1-via-else-day-lt1+then-day-entry t ↦ omega (arith, length_is k) ])
 
 pub overflow_sub-result : goal.overflow_sub-result
 overflow_sub-result c = count_fits (sum (goal.at.overflow_sub-result c).After-month_entry-entry) (sum_small (goal.at.overflow_sub-result c).After-month_entry-entry)
@@ -64,7 +64,7 @@ returns c = let k = (goal.at.returns c).After-month_entry-entry in
       month_low = month_low k;
       month_high = month_high k;
       day_low = c.if-day-lt1.false;
-      day_high = omega (arith, ltb-false _ a.day c.if-day-entry.false, length_is k);
+      day_high = omega (arith, c.if-day-entry.false, length_is k);
     } in
     ap value
     (count_made (sum k) (sum_small k) (day_number (year_of (start k)) a.month a.day)

@@ -1,7 +1,7 @@
 use Rattle.labels.specs.Parts.{month_entry}
 use Rattle.labels.proofs.LabelDates.{entry_at, no_key_left}
 use Rattle.calendar.specs.Closed.{before, month_days}
-use Rattle.std.proofs.Common.{◌≡◌, ℕ, ◌+◌, ◌*◌, ◌/◌, ◌%◌, ◌<◌, rules}
+use Rattle.std.proofs.Common.{◌≡◌, ℕ, ◌+◌, ◌*◌, ◌/◌, ◌%◌, ◌<◌}
 use Rattle.labels.proofs.date.month_entry.Goals as goal
 use Rattle.labels.proofs.date.month_entry.Goals.{Start}
 

@@ -1,5 +1,4 @@
 use Rattle.text.proofs.Words.{eight_word}
-use Rattle.std.proofs.Common.{rules}
 use Rattle.labels.proofs.digits.eight_bytes.Goals as goal
 
 pub returns : goal.returns

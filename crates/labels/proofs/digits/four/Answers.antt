@@ -1,4 +1,4 @@
-use Rattle.std.proofs.Common.{arith, rules}
+use Rattle.std.proofs.Common.{arith}
 use Rattle.labels.proofs.DigitWords.{four_small, four_digits}
 use Rattle.labels.proofs.digits.four.Goals as goal
 

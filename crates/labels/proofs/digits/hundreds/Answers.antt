@@ -1,4 +1,4 @@
-use Rattle.std.proofs.Common.{arith, rules}
+use Rattle.std.proofs.Common.{arith}
 use Rattle.labels.proofs.Records.{hundreds_are}
 use Rattle.labels.proofs.digits.hundreds.Goals as goal
 

@@ -1,4 +1,4 @@
-use Rattle.std.proofs.Common.{ap, rules}
+use Rattle.std.proofs.Common.{ap}
 use Rattle.text.specs.Words.{byte_of}
 use Rattle.labels.proofs.digits.pair.Goals as goal
 

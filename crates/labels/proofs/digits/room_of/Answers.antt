@@ -1,7 +1,7 @@
-use Rattle.std.proofs.Common.{◌-◌, map, length, sym, ◌∙◌, arith, rules}
+use Rattle.std.proofs.Common.{◌-◌, map, sym, ◌∙◌, arith}
 use lib.ListN.{length-map}
 use Rattle.labels.specs.Words.{room_one}
-use Rattle.text.proofs.Words.{Made, none_made, room, more_made, all_made}
+use Rattle.text.proofs.Words.{none_made, room, more_made, all_made}
 use Rattle.labels.proofs.Rooms.{room_at}
 use Rattle.labels.proofs.digits.room_of.Goals as goal
 

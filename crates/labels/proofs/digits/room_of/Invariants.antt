@@ -1,8 +1,6 @@
-use Rattle.std.proofs.Common.{◌-◌, map, length, sym, ◌∙◌, arith, rules}
-use lib.ListN.{length-map}
+use Rattle.std.proofs.Common.{map, length}
 use Rattle.labels.specs.Words.{room_one}
-use Rattle.text.proofs.Words.{Made, none_made, room, more_made, all_made}
-use Rattle.labels.proofs.Rooms.{room_at}
+use Rattle.text.proofs.Words.{Made}
 use Rattle.labels.proofs.digits.room_of.Given as goal
 
 abbrev pub invariant-loop-i : goal.invariant-loop-i

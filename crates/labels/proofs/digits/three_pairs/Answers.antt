@@ -1,4 +1,4 @@
-use Rattle.std.proofs.Common.{arith, rules}
+use Rattle.std.proofs.Common.{arith}
 use Rattle.labels.proofs.DigitWords.{pairs_small, pairs_digits}
 use Rattle.labels.proofs.digits.three_pairs.Goals as goal
 

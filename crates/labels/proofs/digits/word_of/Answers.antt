@@ -1,5 +1,5 @@
-use Rattle.std.proofs.Common.{◌-◌, length, refl, arith}
-use Rattle.text.proofs.Words.{Made, none_made, room, more_made, all_made}
+use Rattle.std.proofs.Common.{◌-◌, refl, arith}
+use Rattle.text.proofs.Words.{none_made, room, more_made, all_made}
 use Rattle.labels.proofs.digits.word_of.Goals as goal
 
 pub loop-i-init : goal.loop-i-init

@@ -1,5 +1,5 @@
-use Rattle.std.proofs.Common.{◌-◌, length, refl, arith}
-use Rattle.text.proofs.Words.{Made, none_made, room, more_made, all_made}
+use Rattle.std.proofs.Common.{length}
+use Rattle.text.proofs.Words.{Made}
 use Rattle.labels.proofs.digits.word_of.Given as goal
 
 abbrev pub invariant-loop-i : goal.invariant-loop-i

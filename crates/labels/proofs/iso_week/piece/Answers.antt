@@ -1,4 +1,4 @@
-use Rattle.std.proofs.Common.{◌*◌, sym, ap, ◌∙◌, arith, rules}
+use Rattle.std.proofs.Common.{◌*◌, sym, ap, ◌∙◌, arith}
 use Rattle.text.specs.Words.{part_of}
 use Rattle.labels.specs.WeekPieces.{pieces}
 use Rattle.labels.proofs.DigitWords.{two_stored}

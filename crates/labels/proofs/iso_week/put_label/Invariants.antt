@@ -1,7 +1,6 @@
-use Rattle.std.proofs.Common.{◌≡◌, ◌-◌, ◌/◌, ◌%◌, ◌≤◌, refl, arith, rules}
+use Rattle.std.proofs.Common.{◌≡◌, ◌-◌, ◌/◌, ◌%◌, ◌≤◌}
 use Rattle.labels.specs.WeekPieces.{pieces}
-use Rattle.labels.proofs.Pieces.{Placed, none_placed, more_placed, all_placed}
-use Rattle.labels.proofs.WeekTexts.{week_filled}
+use Rattle.labels.proofs.Pieces.{Placed}
 use Rattle.labels.proofs.iso_week.put_label.Given as goal
 
 abbrev pub invariant-loop-i : goal.invariant-loop-i

@@ -1,8 +1,8 @@
-use Rattle.std.proofs.Common.{◌≡◌, ◌+◌, ◌-◌, ◌*◌, ◌/◌, ◌≤◌, [], ◌∷◌, sym, refl, ap, ◌∙◌, arith, rules}
+use Rattle.std.proofs.Common.{◌≡◌, ◌*◌, ◌/◌, [], ◌∷◌, sym, refl, ap, ◌∙◌, arith}
 use Rattle.text.specs.Words.{byte_of}
 use Rattle.labels.specs.WeekPieces.{pieces}
 use Rattle.text.specs.Filled.{filled}
-use Rattle.labels.proofs.Pieces.{Placed, none_placed, more_placed, all_placed}
+use Rattle.labels.proofs.Pieces.{none_placed, more_placed, all_placed}
 use Rattle.labels.proofs.iso_week.put_two.Goals as goal
 
 pub loop-i-init : goal.loop-i-init

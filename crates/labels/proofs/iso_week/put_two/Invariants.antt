@@ -1,8 +1,6 @@
-use Rattle.std.proofs.Common.{◌≡◌, ◌+◌, ◌-◌, ◌*◌, ◌/◌, ◌≤◌, [], ◌∷◌, sym, refl, ap, ◌∙◌, arith, rules}
-use Rattle.text.specs.Words.{byte_of}
+use Rattle.std.proofs.Common.{◌≡◌, ◌+◌, ◌-◌, ◌≤◌}
 use Rattle.labels.specs.WeekPieces.{pieces}
-use Rattle.text.specs.Filled.{filled}
-use Rattle.labels.proofs.Pieces.{Placed, none_placed, more_placed, all_placed}
+use Rattle.labels.proofs.Pieces.{Placed}
 use Rattle.labels.proofs.iso_week.put_two.Given as goal
 
 abbrev pub invariant-loop-i : goal.invariant-loop-i

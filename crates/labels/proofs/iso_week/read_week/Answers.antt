@@ -8,39 +8,29 @@ use Rattle.labels.proofs.ReadValues.{ValuesRead}
 use Rattle.labels.proofs.Reading.{two_read, two_wrong}
 use Rattle.labels.proofs.WeekTexts.{to_week_shape, from_week_shape, wrong_week_length, wrong_week, week_read}
 use Rattle.labels.proofs.iso_week.read_week.Goals as goal
-use Rattle.labels.proofs.iso_week.read_week.Goals.{After-read_values-arg-2-1, In-Read, Start}
+use Rattle.labels.proofs.iso_week.read_week.Goals.{In-Read}
 
 pub returns-then-label-ne-LENGTH : goal.returns-then-label-ne-LENGTH
 returns-then-label-ne-LENGTH c = c.malformed.ensures ∙ wrong_week_length c.args.label.now c.if-label-ne-LENGTH.true
 
--- the two parts as numbers
-abbrev start : After-read_values-arg-2-1 → Start
-start c = c.before.before.before.before.before.before.before
-
-to_week : (c : After-read_values-arg-2-1) → OneWord to_week_shape c.eight_bytes-to_week.result
-to_week c = (omega arith, (refl, search rules))
-
-from_week : (c : After-read_values-arg-2-1) → OneWord from_week_shape c.four_bytes-from_week.result
-from_week c = (omega arith, (refl, search rules))
-
 pub read_values-requires : goal.read_values-requires
-read_values-requires c = (to_week c, from_week c)
+read_values-requires c = ((omega arith, (refl, search rules)), (omega arith, (refl, search rules)))
 
 -- what they tell of the label
-read_both : (c : In-Read) → let label = (start c.before.before.before.before.before).args.label.now in
+read_both : (c : In-Read) → let label = c.args.label.now in
     ValuesRead to_week_shape (part_of 0 8 label) c.in-Read.year × ValuesRead from_week_shape (part_of 6 4 label) c.in-Read.rest
 read_both c =
-    let k = c.before.before.before.before.before in
-    let label = (start k).args.label.now in
-    two_read label (bytes label k.shared_slice_known-1.given) to_week_shape from_week_shape 0 6 (omega arith) (omega arith) k.eight_bytes-to_week.ensures k.four_bytes-from_week.ensures.0
-    c.in-Read.year.0 c.in-Read.year.1.0 (to_week k) (from_week k) (sym c.year-1.given.0.1 ∙ c.read_values.ensures)
+    let label = c.args.label.now in
+    let to_week : OneWord to_week_shape c.eight_bytes-to_week.result = (omega arith, (refl, search rules)) in
+    let from_week : OneWord from_week_shape c.four_bytes-from_week.result = (omega arith, (refl, search rules)) in
+    two_read label (bytes label c.type_inv.label) to_week_shape from_week_shape 0 6 (omega arith) (omega arith) c.eight_bytes-to_week.ensures c.four_bytes-from_week.ensures.0
+    c.in-Read.year c.in-Read.rest to_week from_week (sym c.in-Read.is ∙ c.read_values.ensures)
 
 pub returns-in_default : goal.returns-in_default
 returns-in_default c =
-    let k = (goal.at.returns-in_default c).After-read_values-arg-2-1 in
-    let label = (start k).args.label.now in
+    let label = c.args.label.now in
     c.malformed-in_default.ensures
-    ∙ wrong_week label k.if-label-ne-LENGTH.false (two_wrong label (bytes label k.shared_slice_known-1.given) to_week_shape from_week_shape 0 6 (omega arith) (omega arith) k.eight_bytes-to_week.ensures k.four_bytes-from_week.ensures.0
+    ∙ wrong_week label c.if-label-ne-LENGTH.false (two_wrong label (bytes label c.type_inv.label) to_week_shape from_week_shape 0 6 (omega arith) (omega arith) c.eight_bytes-to_week.ensures c.four_bytes-from_week.ensures.0
     (sym c.in_default.is ∙ c.read_values.ensures))
 
 pub pair-requires : goal.pair-requires
@@ -58,7 +48,7 @@ returns c =
     let second = third.before in
     let first = second.before in
     let k = (goal.at.returns c).In-Read in
-    let label = (start (goal.at.returns c).After-read_values-arg-2-1).args.label.now in
+    let label = c.args.label.now in
     let r = read_both k in
     let a = first.pair.ensures in
     let b = second.pair-2.ensures in

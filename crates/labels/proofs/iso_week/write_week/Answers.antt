@@ -1,4 +1,4 @@
-use Rattle.std.proofs.Common.{◌≡◌, sym, ap, ◌∙◌, to_z-of_z, rules}
+use Rattle.std.proofs.Common.{◌≡◌, sym, ap, ◌∙◌, to_z-of_z}
 use Rattle.refusal.specs.Outcome.{value, and_then}
 use Rattle.week.specs.Answers.{week_outcome, week_answer}
 use Rattle.labels.specs.IsoWeek.{week_date_label, week_label}

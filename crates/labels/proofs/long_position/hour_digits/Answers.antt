@@ -1,4 +1,4 @@
-use Rattle.std.proofs.Common.{◌≡◌, ℕ, ◌+◌, ◌≤◌, Bool, true, false, leb, arith, rules, le-leb}
+use Rattle.std.proofs.Common.{◌≡◌, ℕ, ◌+◌, ◌≤◌, Bool, true, false, leb, arith, le-leb}
 use borrow.Author.Tests.{lt-leb}
 use mir.Val.{bool_byte}
 use Rattle.labels.specs.Webvtt.{hour_digits}

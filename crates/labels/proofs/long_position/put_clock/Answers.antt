@@ -1,4 +1,4 @@
-use Rattle.std.proofs.Common.{◌+◌, [], ◌∷◌, refl, ap, ◌∙◌, rules}
+use Rattle.std.proofs.Common.{◌+◌, [], ◌∷◌, refl, ap, ◌∙◌}
 use Rattle.labels.specs.Clock.{colon}
 use Rattle.text.specs.Filled.{filled}
 use Rattle.labels.specs.Webvtt.{clock_of}
@@ -11,4 +11,4 @@ returns c =
     let a = c.args in
     let first = c.store in
     filled_then a.at (colon ∷ []) (clock_of a.n) a.out.now first.ensures refl
-    (c.put.ensures ∙ ap (λ text. filled (a.at + 1) text first.new.0) (clock_is a.n))
+    (c.put.ensures ∙ ap (λ text. filled (a.at + 1) text first.new.out) (clock_is a.n))

@@ -1,4 +1,4 @@
-use Rattle.std.proofs.Common.{◌%◌, arith, rules}
+use Rattle.std.proofs.Common.{◌%◌, arith}
 use Rattle.labels.proofs.DigitWords.{four_below}
 use Rattle.labels.proofs.Positions.{two_to_five, hours_begin}
 use Rattle.labels.proofs.long_position.put_hours.Goals as goal

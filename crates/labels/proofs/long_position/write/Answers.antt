@@ -1,4 +1,4 @@
-use Rattle.std.proofs.Common.{arith, rules}
+use Rattle.std.proofs.Common.{arith}
 use Rattle.labels.specs.Webvtt.{position_text}
 use Rattle.text.proofs.Writing.{no_room, all_written}
 use Rattle.labels.proofs.Positions.{length_position, clock_behind}

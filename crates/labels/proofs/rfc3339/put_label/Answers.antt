@@ -1,5 +1,4 @@
 use Rattle.labels.proofs.Instants.{label_filled}
-use Rattle.std.proofs.Common.{rules}
 use Rattle.labels.proofs.rfc3339.put_label.Goals as goal
 
 pub returns : goal.returns

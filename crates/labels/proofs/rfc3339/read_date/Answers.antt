@@ -6,35 +6,26 @@ use Rattle.labels.proofs.Reading.{year_shape, from_year_shape, two_read, two_wro
 use Rattle.text.specs.Words.{part_of}
 use Rattle.labels.specs.Words.{OneWord}
 use Rattle.labels.proofs.rfc3339.read_date.Goals as goal
-use Rattle.labels.proofs.rfc3339.read_date.Goals.{After-read_values-arg-2-1, In-Read, Start}
-
-year_word : (c : After-read_values-arg-2-1) → OneWord year_shape c.four_bytes-year_text.result
-year_word c = (omega arith, (refl, search rules))
-
-date_word : (c : After-read_values-arg-2-1) → OneWord from_year_shape c.eight_bytes-date_text.result
-date_word c = (omega arith, (refl, search rules))
-
-abbrev start : After-read_values-arg-2-1 → Start
-start c = c.before.before.before.before.before.before
+use Rattle.labels.proofs.rfc3339.read_date.Goals.{In-Read}
 
 pub read_values-requires : goal.read_values-requires
-read_values-requires c = (year_word c, date_word c)
+read_values-requires c = ((omega arith, (refl, search rules)), (omega arith, (refl, search rules)))
 
 -- what the two numbers tell of the label
-read_both : (c : In-Read) → let label = (start c.before.before.before.before.before).args.label.now in
+read_both : (c : In-Read) → let label = c.args.label.now in
     ValuesRead year_shape (part_of 0 4 label) c.in-Read.year × ValuesRead from_year_shape (part_of 2 8 label) c.in-Read.date
 read_both c =
-    let k = c.before.before.before.before.before in
-    let label = (start k).args.label.now in
-    two_read label (bytes label k.shared_slice_known-1.given) year_shape from_year_shape 0 2 (omega arith) (omega arith) k.four_bytes-year_text.ensures.0 k.eight_bytes-date_text.ensures
-    c.in-Read.year.0 c.in-Read.year.1.0 (year_word k) (date_word k) (sym c.year-1.given.0.1 ∙ c.read_values.ensures)
+    let label = c.args.label.now in
+    let year_word : OneWord year_shape c.four_bytes-year_text.result = (omega arith, (refl, search rules)) in
+    let date_word : OneWord from_year_shape c.eight_bytes-date_text.result = (omega arith, (refl, search rules)) in
+    two_read label (bytes label c.type_inv.label) year_shape from_year_shape 0 2 (omega arith) (omega arith) c.four_bytes-year_text.ensures.0 c.eight_bytes-date_text.ensures
+    c.in-Read.year c.in-Read.date year_word date_word (sym c.in-Read.is ∙ c.read_values.ensures)
 
 pub returns-in_default : goal.returns-in_default
 returns-in_default c =
-    let k = (goal.at.returns-in_default c).After-read_values-arg-2-1 in
-    let label = (start k).args.label.now in
+    let label = c.args.label.now in
     c.malformed.ensures
-    ∙ wrong_date label (two_wrong label (bytes label k.shared_slice_known-1.given) year_shape from_year_shape 0 2 (omega arith) (omega arith) k.four_bytes-year_text.ensures.0 k.eight_bytes-date_text.ensures
+    ∙ wrong_date label (two_wrong label (bytes label c.type_inv.label) year_shape from_year_shape 0 2 (omega arith) (omega arith) c.four_bytes-year_text.ensures.0 c.eight_bytes-date_text.ensures
     (sym c.in_default.is ∙ c.read_values.ensures))
 
 pub pair-requires : goal.pair-requires
@@ -65,9 +56,8 @@ read_time-requires c =
 pub returns : goal.returns
 returns c =
     let k = (goal.at.returns c).In-Read in
-    let s = start (goal.at.returns c).After-read_values-arg-2-1 in
-    let label = s.args.label.now in
+    let label = c.args.label.now in
     let r = read_both k in
     c.read_time.ensures
     ∙ (λ i. read_time (100 * c.pair.ensures i + c.pair-2.ensures i) (c.pair-3.ensures i) (c.pair-4.ensures i) (take (length label - 10) (drop 10 label)))
-    ∙ date_read label k.in-Read.year k.in-Read.date s.requires r.0 r.1
+    ∙ date_read label k.in-Read.year k.in-Read.date c.requires r.0 r.1

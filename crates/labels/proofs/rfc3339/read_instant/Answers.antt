@@ -1,4 +1,4 @@
-use Rattle.std.proofs.Common.{◌∙◌, rules}
+use Rattle.std.proofs.Common.{◌∙◌}
 use Rattle.labels.proofs.Reading.{wrong_length}
 use Rattle.labels.proofs.rfc3339.read_instant.Goals as goal
 

@@ -1,5 +1,4 @@
 use Rattle.std.proofs.Common.{◌+◌, ◌*◌, sym, refl, ◌∙◌, arith, rules}
-use borrow.Author.Tests.{not-true, not-false}
 use Rattle.text.proofs.Words.{bytes}
 use Rattle.labels.proofs.ReadValues.{ValuesRead}
 use Rattle.labels.proofs.Shapes.{clock_shape, fraction_shape}
@@ -7,16 +6,7 @@ use Rattle.labels.proofs.Reading.{two_read, two_wrong, wrong_first, wrong_last, 
 use Rattle.text.specs.Words.{part_of}
 use Rattle.labels.specs.Words.{OneWord}
 use Rattle.labels.proofs.rfc3339.read_time.Goals as goal
-use Rattle.labels.proofs.rfc3339.read_time.Goals.{After-read_values-arg-2-1, In-Read, Start}
-
-clock_word : (c : After-read_values-arg-2-1) → OneWord clock_shape c.eight_bytes-clock_text.result
-clock_word c = (omega arith, (refl, search rules))
-
-fraction_word : (c : After-read_values-arg-2-1) → OneWord fraction_shape c.four_bytes-fraction_text.result
-fraction_word c = (omega arith, (refl, search rules))
-
-abbrev start : After-read_values-arg-2-1 → Start
-start c = c.before.before.before.before.before.before.before.before.before.before.before.before
+use Rattle.labels.proofs.rfc3339.read_time.Goals.{In-Read, Start}
 
 pub returns-then-not-is_letter : goal.returns-then-not-is_letter
 returns-then-not-is_letter c =
@@ -31,38 +21,34 @@ returns-then-not-is_letter-2 c =
     c.malformed-then-not-is_letter-2.ensures ∙ wrong_last a.part.now s.requires.1 (100 * a.century + a.year) a.month a.day (sym c.is_letter-2.ensures ∙ c.if-not-is_letter-2.true)
 
 pub read_values-requires : goal.read_values-requires
-read_values-requires c = (clock_word c, fraction_word c)
+read_values-requires c = ((omega arith, (refl, search rules)), (omega arith, (refl, search rules)))
 
 -- what the two numbers tell of the part
-read_both : (c : In-Read) → let part = (start c.before.before.before.before.before).args.part.now in
+read_both : (c : In-Read) → let part = c.args.part.now in
     ValuesRead clock_shape (part_of 1 8 part) c.in-Read.clock × ValuesRead fraction_shape (part_of 9 4 part) c.in-Read.fraction
 read_both c =
-    let k = c.before.before.before.before.before in
-    let part = (start k).args.part.now in
-    two_read part (bytes part k.shared_slice_known-1.given) clock_shape fraction_shape 1 9 (omega arith) (omega arith) k.eight_bytes-clock_text.ensures k.four_bytes-fraction_text.ensures.0
-    c.in-Read.clock.0 c.in-Read.clock.1.0 (clock_word k) (fraction_word k) (sym c.clock-1.given.0.1 ∙ c.read_values.ensures)
+    let part = c.args.part.now in
+    let clock_word : OneWord clock_shape c.eight_bytes-clock_text.result = (omega arith, (refl, search rules)) in
+    let fraction_word : OneWord fraction_shape c.four_bytes-fraction_text.result = (omega arith, (refl, search rules)) in
+    two_read part (bytes part c.type_inv.part) clock_shape fraction_shape 1 9 (omega arith) (omega arith) c.eight_bytes-clock_text.ensures c.four_bytes-fraction_text.ensures.0
+    c.in-Read.clock c.in-Read.fraction clock_word fraction_word (sym c.in-Read.is ∙ c.read_values.ensures)
 
 pub returns-in_default : goal.returns-in_default
 returns-in_default c =
-    let k = (goal.at.returns-in_default c).After-read_values-arg-2-1 in
-    let s = start k in
-    let a = s.args in
+    let a = c.args in
     let p = a.part.now in
-    c.malformed-in_default.ensures ∙ wrong_digits p s.requires.1 (100 * a.century + a.year) a.month a.day
-    (two_wrong p (bytes p k.shared_slice_known-1.given) clock_shape fraction_shape 1 9 (omega arith) (omega arith) k.eight_bytes-clock_text.ensures k.four_bytes-fraction_text.ensures.0
+    c.malformed-in_default.ensures ∙ wrong_digits p c.requires.1 (100 * a.century + a.year) a.month a.day
+    (two_wrong p (bytes p c.type_inv.part) clock_shape fraction_shape 1 9 (omega arith) (omega arith) c.eight_bytes-clock_text.ensures c.four_bytes-fraction_text.ensures.0
     (sym c.in_default.is ∙ c.read_values.ensures))
 
 pub join-requires : goal.join-requires
 join-requires c =
-    let s = start (goal.at.join-requires c).After-read_values-arg-2-1 in
-    (s.requires.0, (clock_read s.args.part.now s.requires.1 (read_both c).0, fraction_read s.args.part.now s.requires.1 (read_both c).1))
+    (c.requires.0, (clock_read c.args.part.now c.requires.1 (read_both c).0, fraction_read c.args.part.now c.requires.1 (read_both c).1))
 
 pub returns : goal.returns
 returns c =
-    let k = (goal.at.returns c).After-read_values-arg-2-1 in
-    let s = start k in
-    let a = s.args in
+    let a = c.args in
     let r = read_both (goal.at.returns c).In-Read in
     c.join.ensures
-    ∙ time_read a.part.now s.requires.1 (100 * a.century + a.year) a.month a.day c.in-Read.clock c.in-Read.fraction
-    (sym k.is_letter.ensures ∙ k.if-not-is_letter.false) (sym k.is_letter-2.ensures ∙ k.if-not-is_letter-2.false) r.0 r.1
+    ∙ time_read a.part.now c.requires.1 (100 * a.century + a.year) a.month a.day c.in-Read.clock c.in-Read.fraction
+    (sym c.is_letter.ensures ∙ c.if-not-is_letter.false) (sym c.is_letter-2.ensures ∙ c.if-not-is_letter-2.false) r.0 r.1

@@ -1,4 +1,4 @@
-use Rattle.std.proofs.Common.{sym, ap, ◌∙◌, to_z-of_z, rules}
+use Rattle.std.proofs.Common.{sym, ap, ◌∙◌, to_z-of_z}
 use Rattle.refusal.specs.Outcome.{and_then}
 use Rattle.instant.specs.Answers.{fields_outcome, split_answer}
 use Rattle.labels.specs.Rfc3339.{fields_label, instant_label}

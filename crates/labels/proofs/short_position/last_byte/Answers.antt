@@ -1,4 +1,4 @@
-use Rattle.std.proofs.Common.{◌≡◌, ℕ, ◌+◌, ◌*◌, List, [], ◌∷◌, sym, ap, ◌∙◌, arith, rules}
+use Rattle.std.proofs.Common.{◌≡◌, ℕ, ◌+◌, ◌*◌, List, [], ◌∷◌, sym, ap, ◌∙◌, arith}
 use Rattle.text.specs.Words.{part_of}
 use Rattle.labels.specs.PositionPieces.{short_text}
 use Rattle.labels.proofs.short_position.last_byte.Goals as goal

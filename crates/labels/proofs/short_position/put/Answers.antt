@@ -1,4 +1,4 @@
-use Rattle.std.proofs.Common.{◌≡◌, ◌+◌, ◌-◌, ◌*◌, ◌/◌, ◌%◌, ◌≤◌, ◌++◌, sym, refl, ap, ◌∙◌, subst, ap₂, arith, rules}
+use Rattle.std.proofs.Common.{◌≡◌, ◌+◌, ◌*◌, ◌/◌, ◌%◌, ◌++◌, sym, refl, ap, ◌∙◌, subst, ap₂, arith}
 use Rattle.text.specs.Filled.{filled}
 use Rattle.labels.specs.Webvtt.{per_minute}
 use Rattle.labels.specs.PositionPieces.{short_text}

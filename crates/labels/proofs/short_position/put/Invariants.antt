@@ -1,11 +1,6 @@
-use Rattle.std.proofs.Common.{◌≡◌, ◌+◌, ◌-◌, ◌*◌, ◌/◌, ◌%◌, ◌≤◌, ◌++◌, sym, refl, ap, ◌∙◌, subst, ap₂, arith, rules}
-use Rattle.text.specs.Filled.{filled}
-use Rattle.labels.specs.Webvtt.{per_minute}
+use Rattle.std.proofs.Common.{◌≡◌, ◌+◌, ◌-◌, ◌%◌, ◌≤◌}
 use Rattle.labels.specs.PositionPieces.{short_text}
-use Rattle.text.proofs.Words.{part_two}
-use Rattle.labels.proofs.DigitWords.{two_stored}
-use Rattle.labels.proofs.Pieces.{Placed, none_placed, more_placed, all_placed}
-use Rattle.labels.proofs.Positions.{short_text_lem}
+use Rattle.labels.proofs.Pieces.{Placed}
 use Rattle.labels.proofs.short_position.put.Given as goal
 
 abbrev pub invariant-loop-i-2 : goal.invariant-loop-i-2

@@ -1,4 +1,4 @@
-use Rattle.std.proofs.Common.{arith, rules}
+use Rattle.std.proofs.Common.{arith}
 use Rattle.labels.proofs.Records.{behind_seconds}
 use Rattle.labels.proofs.time_fields.behind_second.Goals as goal
 

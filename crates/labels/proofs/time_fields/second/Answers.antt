@@ -1,4 +1,4 @@
-use Rattle.std.proofs.Common.{arith, rules}
+use Rattle.std.proofs.Common.{arith}
 use Rattle.labels.proofs.Records.{seconds_are}
 use Rattle.labels.proofs.time_fields.second.Goals as goal
 

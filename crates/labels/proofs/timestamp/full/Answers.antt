@@ -1,4 +1,4 @@
-use Rattle.std.proofs.Common.{◌∙◌, rules}
+use Rattle.std.proofs.Common.{◌∙◌}
 use Rattle.labels.proofs.StampParts.{twelve_loaded}
 use Rattle.labels.proofs.timestamp.full.Goals as goal
 

@@ -1,4 +1,4 @@
-use Rattle.std.proofs.Common.{◌≡◌, ◌-◌, ◌^◌, ◌<◌, ◌≤◌, cond, take, sym, refl, ap, ◌∙◌, arith}
+use Rattle.std.proofs.Common.{◌≡◌, cond, take, sym, refl, ap, ◌∙◌, arith}
 use Rattle.text.specs.Decimal.{all_digits}
 use Rattle.labels.specs.Stamps.{wrong, limited_from}
 use Rattle.labels.proofs.StampRead.{leading_more}

@@ -1,7 +1,6 @@
-use Rattle.std.proofs.Common.{◌≡◌, ◌-◌, ◌^◌, ◌<◌, ◌≤◌, cond, take, sym, refl, ap, ◌∙◌, arith}
+use Rattle.std.proofs.Common.{◌≡◌, ◌-◌, ◌^◌, ◌<◌, ◌≤◌, take}
 use Rattle.text.specs.Decimal.{all_digits}
-use Rattle.labels.specs.Stamps.{wrong, limited_from}
-use Rattle.labels.proofs.StampRead.{leading_more}
+use Rattle.labels.specs.Stamps.{limited_from}
 use Rattle.labels.proofs.timestamp.leading_digits.Given as goal
 
 abbrev pub invariant-loop-i : goal.invariant-loop-i

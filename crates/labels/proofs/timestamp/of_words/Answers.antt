@@ -1,4 +1,4 @@
-use Rattle.std.proofs.Common.{arith, rules}
+use Rattle.std.proofs.Common.{arith}
 use Rattle.labels.proofs.ClockWords.{high_byte, first_sum, rest_sum, no_room, first_small, decimals, words_stamp}
 use Rattle.labels.proofs.timestamp.of_words.Goals as goal
 

@@ -1,4 +1,4 @@
-use Rattle.std.proofs.Common.{◌+◌, ◌*◌, ◌%◌, cond, sym, ap, arith, rules, le-ltb, lt-ltb}
+use Rattle.std.proofs.Common.{◌+◌, ◌*◌, ◌%◌, cond, sym, ap, arith, le-ltb, lt-ltb}
 use Rattle.labels.proofs.timestamp.one_more.Goals as goal
 
 pub returns-then-n-gt-LAST_HUNDRED : goal.returns-then-n-gt-LAST_HUNDRED

@@ -1,4 +1,4 @@
-use Rattle.std.proofs.Common.{◌∙◌, rules}
+use Rattle.std.proofs.Common.{◌∙◌}
 use Rattle.labels.proofs.StampRead.{whole_part}
 use Rattle.labels.proofs.timestamp.read.Goals as goal
 

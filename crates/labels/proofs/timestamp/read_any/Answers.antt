@@ -1,4 +1,4 @@
-use Rattle.std.proofs.Common.{◌∙◌, arith, rules}
+use Rattle.std.proofs.Common.{◌∙◌, arith}
 use Rattle.labels.proofs.StampRead.{few_bytes, whole_part, wrong_twelve, wrong_front, last_below, many_hours, all_hours}
 use Rattle.labels.proofs.timestamp.read_any.Goals as goal
 

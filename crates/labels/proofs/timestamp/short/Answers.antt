@@ -1,4 +1,4 @@
-use Rattle.std.proofs.Common.{◌+◌, ◌∙◌, arith, rules}
+use Rattle.std.proofs.Common.{◌+◌, ◌∙◌, arith}
 use Rattle.labels.proofs.StampParts.{nine_loaded}
 use Rattle.labels.proofs.timestamp.short.Goals as goal
 

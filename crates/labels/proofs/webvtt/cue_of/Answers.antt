@@ -1,4 +1,4 @@
-use Rattle.std.proofs.Common.{◌∙◌, ap₂, arith, w64, rules}
+use Rattle.std.proofs.Common.{◌∙◌, ap₂, arith, w64}
 use mir.Facts.{to_z_pos}
 use Rattle.refusal.specs.Outcome.{value}
 use Rattle.numbers.proofs.Machine.{pos_fits}

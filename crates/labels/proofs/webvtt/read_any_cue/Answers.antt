@@ -1,5 +1,4 @@
-use Rattle.std.proofs.Common.{sym, ◌∙◌, length-take-le, rules}
-use borrow.Author.Tests.{not-true, not-false}
+use Rattle.std.proofs.Common.{sym, ◌∙◌, length-take-le}
 use Rattle.labels.proofs.StampNumbers.{stamped}
 use Rattle.labels.proofs.CueCuts.{few_bytes_line, cut_short, no_mark, glued_back, both_read}
 use Rattle.labels.proofs.webvtt.read_any_cue.Goals as goal

@@ -1,4 +1,4 @@
-use Rattle.std.proofs.Common.{sym, ◌∙◌, rules}
+use Rattle.std.proofs.Common.{sym, ◌∙◌}
 use Rattle.labels.proofs.StampNumbers.{stamped}
 use Rattle.labels.proofs.CueUsual.{usual_line}
 use Rattle.labels.proofs.webvtt.read_cue.Goals as goal

@@ -1,5 +1,4 @@
 use Rattle.labels.proofs.StampNumbers.{answer_wrong, answer_beyond, answer_value}
-use Rattle.std.proofs.Common.{rules}
 use Rattle.labels.proofs.webvtt.read_position.Goals as goal
 
 pub returns-then-position-ge-WRONG : goal.returns-then-position-ge-WRONG

@@ -1,5 +1,4 @@
-use Rattle.std.proofs.Common.{◌≡◌, false, pos, rules}
-use borrow.Author.Tests.{not-true, not-false}
+use Rattle.std.proofs.Common.{◌≡◌, false, pos}
 use Rattle.numbers.specs.Range.{outside}
 use Rattle.numbers.proofs.Between.{natural_within, cast_within}
 use Rattle.numbers.proofs.Machine.{answered}

@@ -1,4 +1,3 @@
-use borrow.Author.Rules.{rules}
 use Rattle.sheet.specs.Answers.{claim_at}
 use Rattle.sheet.proofs.bytes.claim_at.Goals as goal
 

@@ -1,5 +1,4 @@
 use mathlib.Core.Path.{◌∙◌}
-use borrow.Author.Rules.{rules}
 use Rattle.text.proofs.Words.{four_word}
 use Rattle.sheet.specs.Answers.{number_at}
 use Rattle.sheet.proofs.bytes.number_at.Goals as goal

@@ -1,6 +1,5 @@
 use native.Mathlib.Omega.{arith}
 use lib.ListN.{length-set}
-use borrow.Author.Rules.{rules}
 use Rattle.sheet.proofs.NumberBytes.{four_stored}
 use Rattle.sheet.proofs.bytes.put_number.Goals as goal
 

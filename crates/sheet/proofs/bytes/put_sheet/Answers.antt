@@ -1,7 +1,6 @@
 use mathlib.Core.Path.{refl}
 use native.Mathlib.Omega.{arith}
 use lib.ListN.{length}
-use borrow.Author.Rules.{rules}
 use Rattle.text.specs.Filled.{Stored}
 use Rattle.text.proofs.Filled.{put_stored}
 use Rattle.sheet.proofs.Fitting.{Fit, fit}

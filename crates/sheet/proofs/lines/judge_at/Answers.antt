@@ -1,5 +1,4 @@
 use mathlib.Core.Path.{ap, ◌∙◌}
-use borrow.Author.Rules.{rules}
 use Rattle.sheet.specs.Answers.{verdict}
 use Rattle.sheet.proofs.Trailer.{check_here}
 use Rattle.sheet.proofs.lines.judge_at.Goals as goal

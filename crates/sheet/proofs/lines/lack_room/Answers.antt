@@ -3,7 +3,6 @@ use native.Mathlib.Omega.{arith}
 use borrow.Author.Tests.{le-ltb}
 use lib.Dec.{ltb}
 use lib.ListN.{length}
-use borrow.Author.Rules.{rules}
 use Rattle.sheet.specs.Report.{lines_of}
 use Rattle.sheet.proofs.LineTexts.{lines_short}
 use Rattle.sheet.proofs.lines.lack_room.Goals as goal

@@ -1,5 +1,4 @@
 use native.Mathlib.Omega.{arith}
-use borrow.Author.Rules.{rules}
 use Rattle.constants.specs.Answers.{claim_outcome}
 use Rattle.sheet.proofs.LineTexts.{line_length}
 use Rattle.sheet.proofs.lines.line_length.Goals as goal

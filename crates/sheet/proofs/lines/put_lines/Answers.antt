@@ -1,8 +1,7 @@
-use Prim.Native.Nat.{◌+◌, ◌-◌, ◌≤◌}
+use Prim.Native.Nat.{◌+◌}
 use mathlib.Core.Path.{◌≡◌, refl, ap}
 use native.Mathlib.Omega.{arith}
 use lib.ListN.{length, length-append}
-use Rattle.text.specs.Filled.{Stored}
 use Rattle.text.proofs.Filled.{nothing_stored, stored_then, stored_as, stored_length}
 use Rattle.constants.specs.Answers.{claim_outcome}
 use Rattle.sheet.specs.Report.{line, lines_of}

@@ -3,7 +3,6 @@ use mathlib.Core.Path.{◌≡◌, ap, ◌∙◌}
 use mathlib.Core.List.{List, ◌++◌}
 use native.Mathlib.Omega.{arith}
 use lib.ListN.{length, length-append}
-use borrow.Author.Rules.{rules}
 use Rattle.refusal.specs.Numbers.{refusal_number}
 use Rattle.text.specs.Decimal.{decimal}
 use Rattle.text.proofs.Filled.{put_stored, put_then, stored_as}

@@ -1,6 +1,5 @@
 use mathlib.Core.Path.{sym, ◌∙◌}
 use borrow.Author.Tests.{ltb-true, ltb-false}
-use borrow.Author.Rules.{rules}
 use Rattle.text.proofs.Writing.{no_room, stored_written}
 use Rattle.sheet.specs.Report.{lines_of}
 use Rattle.sheet.proofs.lines.put_report.Goals as goal

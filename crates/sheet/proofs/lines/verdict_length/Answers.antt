@@ -1,7 +1,6 @@
 use mathlib.Core.Path.{ap, ◌∙◌}
 use native.Mathlib.Omega.{arith}
 use lib.ListN.{length}
-use borrow.Author.Rules.{rules}
 use Rattle.refusal.specs.Numbers.{refusal_number}
 use Rattle.text.specs.Decimal.{decimal}
 use Rattle.sheet.proofs.LineTexts.{text_of, least_length}

@@ -1,6 +1,5 @@
 use native.Mathlib.Omega.{arith}
 use Rattle.transport.proofs.OneStep.{lead_of}
-use borrow.Author.Rules.{rules}
 use Rattle.transport.proofs.steps.ahead.Goals as goal
 
 -- The sum is the position and how far its step lies above the least one.

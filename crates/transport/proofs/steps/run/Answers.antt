@@ -1,10 +1,9 @@
-use Prim.Native.Nat.{ℕ, ◌-◌, ◌%◌, ◌≤◌, ◌<◌, ◌^◌}
+use Prim.Native.Nat.{ℕ, ◌≤◌, ◌<◌, ◌^◌}
 use mathlib.Core.Bool.{false}
-use mathlib.Core.Logic.{⊎_elim}
 use mathlib.Core.Path.{◌≡◌, refl, sym, ap, ◌∙◌}
 use native.Mathlib.Omega.{arith}
 use lib.IntN.{pos, nat_abs}
-use lib.ListN.{length, get_or}
+use lib.ListN.{get_or}
 use mir.Facts.{to_z_pos}
 use mir.Syntax.{w64}
 use mir.Val.{SFits}
@@ -15,7 +14,6 @@ use Rattle.numbers.proofs.Between.{inside_pos, natural_within, cast_within, read
 use Rattle.numbers.proofs.Machine.{read, pos_fits, answered}
 use Rattle.transport.specs.Wraps.{wrap, last_value, last_position}
 use Rattle.transport.specs.Answers.{so_far}
-use Rattle.transport.specs.Batches.{going_on}
 use Rattle.transport.specs.declared.Clock.TheVariants.{At}
 use Rattle.transport.proofs.OneStep.{next_value}
 use Rattle.transport.proofs.Answered.{no_value, passed_over, taken, landed, leads, leads_to, read_is, again, at_end}
@@ -55,32 +53,32 @@ loop-i-preserved c =
     let f : SFits w64 heard = search rules in
     let v = nat_abs (read heard) in
     elim c.if-outside.branch [
-    then-outside t ↦
-    let h = no_value at heard (answered (pos 0) last_value f c.outside.ensures t.if-outside.true) in
-    rw (t.at-is, t.last-is, t.skipped-is)
-    (omega arith, omega arith, l.invariant.2, l.invariant.3, again s l.i at l.skipped (omega arith) (passed_over at heard h l.skipped) ∙ l.invariant.4)
-    | else-outside+then-lands t ↦
-    let within = answered (pos 0) last_value f c.outside.ensures t.if-outside.false in
-    let w = natural_within 0 last_value heard within in
-    let small : v < wrap = omega (arith, read_high f w) in
-    let inside = not-true _ (sym t.lands.ensures ∙ t.if-lands.true) in
-    let a = t.ahead-ahead.result in
-    let d = landed a inside in
-    let h = leads l.at v a refl (read_is f w) t.ahead-ahead.ensures (here l.invariant.2) within ∙ inside in
-    let to = leads_to l.at v a refl (read_is f w) t.ahead-ahead.ensures inside in
-    rw (t.at-is, t.last-is, t.skipped-is) (
-      omega arith,
-      omega arith,
-      d.1,
-      next_value l.at v a t.ahead-ahead.ensures small d.0,
-      again s l.i at l.skipped (omega arith) (taken at heard h l.skipped ∙ ap (λ z. so_far (At z) l.skipped) to) ∙ l.invariant.4,
-    )
-    | else-outside+else-lands t ↦
-    let within = answered (pos 0) last_value f c.outside.ensures t.if-outside.false in
-    let w = natural_within 0 last_value heard within in
-    let h = leads l.at v t.ahead-ahead.result refl (read_is f w) t.ahead-ahead.ensures (here l.invariant.2) within ∙ not-false _ (sym t.lands.ensures ∙ t.if-lands.false) in
-    rw (t.at-is, t.last-is, t.skipped-is)
-    (omega arith, omega arith, l.invariant.2, l.invariant.3, again s l.i at l.skipped (omega arith) (passed_over at heard h l.skipped) ∙ l.invariant.4)
+      | then-outside t ↦
+          let h = no_value at heard (answered (pos 0) last_value f c.outside.ensures t.if-outside.true) in
+          rw (t.at-is, t.last-is, t.skipped-is)
+          (omega arith, omega arith, l.invariant.2, l.invariant.3, again s l.i at l.skipped (omega arith) (passed_over at heard h l.skipped) ∙ l.invariant.4)
+      | else-outside+then-lands t ↦
+          let within = answered (pos 0) last_value f c.outside.ensures t.if-outside.false in
+          let w = natural_within 0 last_value heard within in
+          let small : v < wrap = omega (arith, read_high f w) in
+          let inside = not-true _ (sym t.lands.ensures ∙ t.if-lands.true) in
+          let a = t.ahead-ahead.result in
+          let d = landed a inside in
+          let h = leads l.at v a refl (read_is f w) t.ahead-ahead.ensures (here l.invariant.2) within ∙ inside in
+          let to = leads_to l.at v a refl (read_is f w) t.ahead-ahead.ensures inside in
+          rw (t.at-is, t.last-is, t.skipped-is) (
+            omega arith,
+            omega arith,
+            d.1,
+            next_value l.at v a t.ahead-ahead.ensures small d.0,
+            again s l.i at l.skipped (omega arith) (taken at heard h l.skipped ∙ ap (λ z. so_far (At z) l.skipped) to) ∙ l.invariant.4,
+          )
+      | else-outside+else-lands t ↦
+          let within = answered (pos 0) last_value f c.outside.ensures t.if-outside.false in
+          let w = natural_within 0 last_value heard within in
+          let h = leads l.at v t.ahead-ahead.result refl (read_is f w) t.ahead-ahead.ensures (here l.invariant.2) within ∙ not-false _ (sym t.lands.ensures ∙ t.if-lands.false) in
+          rw (t.at-is, t.last-is, t.skipped-is)
+          (omega arith, omega arith, l.invariant.2, l.invariant.3, again s l.i at l.skipped (omega arith) (passed_over at heard h l.skipped) ∙ l.invariant.4)
     ]
 
 pub returns : goal.returns

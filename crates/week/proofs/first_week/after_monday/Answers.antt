@@ -1,6 +1,5 @@
 use native.Mathlib.Omega.{arith}
 use Rattle.calendar.proofs.Weekdays.{by_sevenths}
-use borrow.Author.Rules.{rules}
 use Rattle.week.proofs.first_week.after_monday.Goals as goal
 
 pub returns : goal.returns

@@ -1,6 +1,5 @@
 use native.Mathlib.Omega.{arith}
 use Rattle.week.specs.Closed.{day_of}
-use borrow.Author.Rules.{rules}
 use Rattle.week.proofs.first_week.day.Goals as goal
 
 pub returns : goal.returns

@@ -3,7 +3,6 @@ use mathlib.Core.Path.{ap, ◌∙◌}
 use native.Mathlib.Omega.{arith}
 use Rattle.calendar.proofs.Quotients.{hundredth_product}
 use Rattle.week.proofs.Years.{first_day_is, first_day_le}
-use borrow.Author.Rules.{rules}
 use Rattle.week.proofs.first_week.first_day.Goals as goal
 
 pub returns : goal.returns

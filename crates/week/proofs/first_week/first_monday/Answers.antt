@@ -1,7 +1,6 @@
 use native.Mathlib.Omega.{arith}
 use Rattle.week.specs.Closed.{to_year, first_week}
 use Rattle.week.proofs.Years.{first_day_monotone, first_day_of_last}
-use borrow.Author.Rules.{rules}
 use Rattle.week.proofs.first_week.first_monday.Goals as goal
 
 pub returns : goal.returns

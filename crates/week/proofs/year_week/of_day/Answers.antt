@@ -5,7 +5,6 @@ use Rattle.week.specs.Closed.{first_day, InYear}
 use Rattle.calendar.proofs.Quotients.{coded, coded_is, year_product}
 use Rattle.calendar.specs.Closed.{regular_day, days_end}
 use Rattle.week.proofs.Products.{week_is, in_year, day_is}
-use borrow.Author.Rules.{rules}
 use Rattle.week.proofs.year_week.of_day.Goals as goal
 
 small : (n : ℕ) → n < days_end → coded (n + 1) < 2 ^ 25

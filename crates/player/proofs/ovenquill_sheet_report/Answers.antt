@@ -1,0 +1,18 @@
+use mathlib.Core.Path.{ap, ◌∙◌}
+use native.Mathlib.Omega.{arith}
+use Rattle.refusal.specs.Outcome.{value}
+use Rattle.sheet.specs.Report.{report_text}
+use Rattle.player.specs.Returned.{returned_count}
+use Rattle.player.proofs.Answered.{as_read}
+use Rattle.player.proofs.Fitting.{bytes_fit}
+use Rattle.player.proofs.ovenquill_sheet_report.Goals as goal
+
+-- What is returned is what the call answered: not more bytes than the buffer has, which fits.
+pub returned_bytes-requires : goal.returned_bytes-requires
+returned_bytes-requires c =
+    let a = c.args in
+    bytes_fit (value (report_text a.sheet.now)) a.out.now (omega arith) c.report.ensures.answer
+
+pub returns : goal.returns
+returns c =
+    record { answer = as_read c.returned_bytes.type_inv c.returned_bytes.ensures ∙ ap returned_count c.report.ensures.answer; buffer = c.report.ensures.buffer }

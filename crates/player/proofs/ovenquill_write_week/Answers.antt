@@ -1,0 +1,19 @@
+use native.Mathlib.Omega.{arith}
+use Rattle.labels.specs.IsoWeek.{week_label}
+use Rattle.player.proofs.Answered.{as_read, label_written}
+use Rattle.player.proofs.Fitting.{bytes_fit}
+use Rattle.player.proofs.ovenquill_write_week.Goals as goal
+
+-- What is returned is what the call answered: not more bytes than the buffer has, which fits.
+pub returned_bytes-requires : goal.returned_bytes-requires
+returned_bytes-requires c =
+    let a = c.args in
+    bytes_fit (week_label _) a.out.now (omega arith) c.write_week.ensures.answer
+
+pub returns : goal.returns
+returns c =
+    let s = c.before.before.before.before.before.before in
+    let both = label_written week_label s.ranges.days s.args.out.now (c.write_week.ensures.answer, c.write_week.ensures.buffer) (as_read c.returned_bytes.type_inv c.returned_bytes.ensures) in record { answer = both.0; buffer = both.1 }
+
+pub write_week-requires : goal.write_week-requires
+write_week-requires c = tt
