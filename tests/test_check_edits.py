@@ -17,7 +17,7 @@ pub fn above(n: u32) -> u32 {
 
 const LAST: u32 = 9;
 
-#[no_mangle]
+#[unsafe(no_mangle)]
 pub extern "C" fn exported(n: u32) -> u32 {
     n + LAST
 }

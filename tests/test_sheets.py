@@ -492,9 +492,9 @@ def try_all_pieces(check_sheet, numbers, claims):
 
 
 def try_trouble(title, command, right_output, **how):
-    """A read or a write that fails is told on standard error, by a line, and the program ends by itself."""
+    """A read or a write that fails is told on standard error, by whole lines, and the program ends with status 1."""
     done = subprocess.run(command, stderr=subprocess.PIPE, timeout=SECONDS, **how)
-    if not done.stderr.endswith(b"\n") or done.returncode < 0:
+    if not done.stderr.endswith(b"\n") or done.returncode != 1:
         fail(f"check_sheet with {title} says {done.stderr} on standard error, with status {done.returncode}")
     if done.stdout is not None and done.stdout != right_output:
         fail(f"check_sheet with {title} prints {done.stdout[:200]}")

@@ -28,8 +28,7 @@ use Rattle.calendar.specs.contracts.month_table.civil_from_days as table
 use Rattle.calendar.proofs.month_table.civil_from_days.Met as table_met
 use Rattle.calendar.proofs.month_table.civil_from_days.Symbol as table_symbol
 
-module _ {M : Type 1} {𝓤 : Ura M} (𝓛 : Logic 𝓤) (𝓜 : Model 𝓤 𝓛.H) (𝓡 : Running 𝓤 𝓛.H 𝓜)
-    (fast_wired : Wired 𝓡.env fast_symbol.code) (plain_wired : Wired 𝓡.env plain_symbol.code) (audit_wired : Wired 𝓡.env audit_symbol.code) (table_wired : Wired 𝓡.env table_symbol.code) where
+module _ {M : Type 1} {𝓤 : Ura M} (𝓛 : Logic 𝓤) (𝓜 : Model 𝓤 𝓛.H) (𝓡 : Running 𝓤 𝓛.H 𝓜) where
   -- what the `ensures` of each says of its answer to a count
   abbrev fast_says : Args fast.signature tt → AtExit fast.ended tt → DateAnswer → SProp 𝓤
   fast_says given end answer = (fast.clauses 𝓛 𝓜.mem 𝓡.returns tt given).ensures tt answer end
@@ -64,18 +63,18 @@ module _ {M : Type 1} {𝓤 : Ura M} (𝓛 : Logic 𝓤) (𝓜 : Model 𝓤 𝓛
     pub table_same :
         (given : Args fast.signature tt) (end : AtExit fast.ended tt) (r s : DateAnswer) →
         ent 𝓤 (conj 𝓤 (fast_says given end r) (table_says given end s)) (fact 𝓤 (date_outcome r ≡ date_outcome s))
-    pub fast_meets : Meets 𝓛 fast.signature (𝓡.run (𝓡.env fast_symbol.name)) (plain.spec 𝓛 𝓜.mem 𝓡.returns)
-    pub plain_meets : Meets 𝓛 plain.signature (𝓡.run (𝓡.env plain_symbol.name)) (fast.spec 𝓛 𝓜.mem 𝓡.returns)
-    pub audit_meets : Meets 𝓛 audit.signature (𝓡.run (𝓡.env audit_symbol.name)) (fast.spec 𝓛 𝓜.mem 𝓡.returns)
-    pub table_meets : Meets 𝓛 table.signature (𝓡.run (𝓡.env table_symbol.name)) (fast.spec 𝓛 𝓜.mem 𝓡.returns)
+    pub fast_meets : Wired 𝓡.env fast_symbol.code → Meets 𝓛 fast.signature (𝓡.run (𝓡.env fast_symbol.name)) (plain.spec 𝓛 𝓜.mem 𝓡.returns)
+    pub plain_meets : Wired 𝓡.env plain_symbol.code → Meets 𝓛 plain.signature (𝓡.run (𝓡.env plain_symbol.name)) (fast.spec 𝓛 𝓜.mem 𝓡.returns)
+    pub audit_meets : Wired 𝓡.env audit_symbol.code → Meets 𝓛 audit.signature (𝓡.run (𝓡.env audit_symbol.name)) (fast.spec 𝓛 𝓜.mem 𝓡.returns)
+    pub table_meets : Wired 𝓡.env table_symbol.code → Meets 𝓛 table.signature (𝓡.run (𝓡.env table_symbol.name)) (fast.spec 𝓛 𝓜.mem 𝓡.returns)
 
   pub all_ways : Equal
   all_ways = record {
     plain_same = λ given end r s. same (civil_answer given.0) (date_outcome r) (date_outcome s);
     audit_same = λ given end r s. same (civil_answer given.0) (date_outcome r) (date_outcome s);
     table_same = λ given end r s. same (civil_answer given.0) (date_outcome r) (date_outcome s);
-    fast_meets = fast_met.met 𝓤 𝓛 𝓜 𝓡 fast_wired;
-    plain_meets = plain_met.met 𝓤 𝓛 𝓜 𝓡 plain_wired;
-    audit_meets = audit_met.met 𝓤 𝓛 𝓜 𝓡 audit_wired;
-    table_meets = table_met.met 𝓤 𝓛 𝓜 𝓡 table_wired;
+    fast_meets = fast_met.met 𝓤 𝓛 𝓜 𝓡;
+    plain_meets = plain_met.met 𝓤 𝓛 𝓜 𝓡;
+    audit_meets = audit_met.met 𝓤 𝓛 𝓜 𝓡;
+    table_meets = table_met.met 𝓤 𝓛 𝓜 𝓡;
   }

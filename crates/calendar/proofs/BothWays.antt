@@ -22,8 +22,7 @@ use Rattle.calendar.specs.contracts.length_by_match.month_length as match
 use Rattle.calendar.proofs.length_by_match.month_length.Met as match_met
 use Rattle.calendar.proofs.length_by_match.month_length.Symbol as match_symbol
 
-module _ {M : Type 1} {𝓤 : Ura M} (𝓛 : Logic 𝓤) (𝓜 : Model 𝓤 𝓛.H) (𝓡 : Running 𝓤 𝓛.H 𝓜)
-    (bits_wired : Wired 𝓡.env bits_symbol.code) (match_wired : Wired 𝓡.env match_symbol.code) where
+module _ {M : Type 1} {𝓤 : Ura M} (𝓛 : Logic 𝓤) (𝓜 : Model 𝓤 𝓛.H) (𝓡 : Running 𝓤 𝓛.H 𝓜) where
   -- what the `ensures` of each says of its answer to a year and a month
   abbrev bits_says : Args bits.signature tt → AtExit bits.ended tt → NumberAnswer → SProp 𝓤
   bits_says given end answer = (bits.clauses 𝓛 𝓜.mem 𝓡.returns tt given).ensures tt answer end
@@ -36,8 +35,8 @@ module _ {M : Type 1} {𝓤 : Ura M} (𝓛 : Logic 𝓤) (𝓜 : Model 𝓤 𝓛
     pub same_answer :
         (given : Args bits.signature tt) (end : AtExit bits.ended tt) (r s : NumberAnswer) →
         ent 𝓤 (conj 𝓤 (bits_says given end r) (match_says given end s)) (fact 𝓤 (number_outcome r ≡ number_outcome s))
-    pub bits_meets : Meets 𝓛 bits.signature (𝓡.run (𝓡.env bits_symbol.name)) (match.spec 𝓛 𝓜.mem 𝓡.returns)
-    pub match_meets : Meets 𝓛 match.signature (𝓡.run (𝓡.env match_symbol.name)) (bits.spec 𝓛 𝓜.mem 𝓡.returns)
+    pub bits_meets : Wired 𝓡.env bits_symbol.code → Meets 𝓛 bits.signature (𝓡.run (𝓡.env bits_symbol.name)) (match.spec 𝓛 𝓜.mem 𝓡.returns)
+    pub match_meets : Wired 𝓡.env match_symbol.code → Meets 𝓛 match.signature (𝓡.run (𝓡.env match_symbol.name)) (bits.spec 𝓛 𝓜.mem 𝓡.returns)
 
   pub both_ways : Equal
   both_ways = record {
@@ -48,6 +47,6 @@ module _ {M : Type 1} {𝓤 : Ura M} (𝓛 : Logic 𝓤) (𝓜 : Model 𝓤 𝓛
         fact_use 𝓤 (number_outcome r ≡ answer) (conj_l 𝓤 says-bits says-match) (λ p.
         fact_use 𝓤 (number_outcome s ≡ answer) (conj_r 𝓤 says-bits says-match) (λ q.
         fact_i 𝓤 (number_outcome r ≡ number_outcome s) (conj 𝓤 says-bits says-match) (p ∙ sym q)));
-    bits_meets = bits_met.met 𝓤 𝓛 𝓜 𝓡 bits_wired;
-    match_meets = match_met.met 𝓤 𝓛 𝓜 𝓡 match_wired;
+    bits_meets = bits_met.met 𝓤 𝓛 𝓜 𝓡;
+    match_meets = match_met.met 𝓤 𝓛 𝓜 𝓡;
   }

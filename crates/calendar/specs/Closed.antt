@@ -33,7 +33,7 @@ to_year = since base_year last_year
 abbrev pub last_day : ℕ
 last_day = since first_count last_count
 
--- the first day of the range, counted from 1 March of baseYear: January and February of a leap year have 60 days
+-- the first day of the range, counted from 1 March of base_year: January and February of a leap year have 60 days
 abbrev pub first_from_march : ℕ
 first_from_march = cycle - 60
 

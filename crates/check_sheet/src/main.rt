@@ -16,12 +16,13 @@ const ROOM: usize = 65537;
 
 fn main(rt: HostRuntime) -> anyhow::Result<()> {
     let mut sheet = [0u8; ROOM];
-    let length = read_input(&mut rt.stdin(), &mut sheet).context("standard input")?;
+    let length = read_input(&mut rt.stdin(), &mut sheet).context("check_sheet: standard input")?;
     let mut lines = [0u8; sheet::REPORT_MOST];
     let WriteAnswer::Written(count) = sheet::report(&sheet[..length], &mut lines) else {
         return Ok(());
     };
-    rt.write_all(&lines[..count]).context("standard output")
+    rt.write_all(&lines[..count])
+        .context("check_sheet: standard output")
 }
 
 // Reads the input to its end, in pieces as they come, and answers how much of the buffer it fills. What has no room is read over what

@@ -100,8 +100,8 @@ pub fn fill_days(instants: &[i64], days: &mut [i32])
 
 // The day count of each of sixteen instants: where the first and the last are the same, there is no other.
 fn fill_block(instants: &[i64], days: &mut [i32])
-    requires instants_len { length instants.now ≡ 16 }
-    requires instants_len_2 { (length instants.now ≡ length days.old) × (AllInRange instants.now × NeverFalls instants.now) }
+    requires sixteen { length instants.now ≡ 16 }
+    requires fits { (length instants.now ≡ length days.old) × (AllInRange instants.now × NeverFalls instants.now) }
     ensures { days.new ≡ map day_of instants.now }
 {
     let first = floored::day(instants[0]);

@@ -9,7 +9,7 @@ use Rattle.labels.specs.Webvtt.{last_position}
 use Rattle.labels.specs.Timestamps.{is_timestamp, position_of, position_answer}
 use Rattle.labels.specs.Timings.{has_arrow, first_of, second_of, is_cue_line, is_cue, parts}
 use Rattle.labels.specs.Cues.{cue_between, cue_of, cue_line_answer}
-use Rattle.labels.specs.Stamps.{wrong, beyond, stamp_of, Stamp, no_timestamp, above_limit, in_range_lem, cue_of_stamps}
+use Rattle.labels.specs.Stamps.{wrong, beyond, stamp_of, Stamp, no_timestamp, above_limit, in_range, cue_of_stamps}
 use Rattle.labels.specs.declared.webvtt.Cue.{Cue}
 use Rattle.labels.proofs.CueParts.{cue_line, no_cue_line}
 use Rattle.labels.proofs.StampNumbers.{no_stamp, by_stamp}
@@ -40,12 +40,12 @@ neither a b n h k = ap₂ ◌||◌ (ne_eqb a n h) (ne_eqb b n k)
 below_wrong : {n : ℕ} → Stamp n → (n ≡ wrong → ⊥) → n < 2 ^ 63
 below_wrong (no_timestamp e) h = absurd (h e)
 below_wrong (above_limit e) h = omega (arith, e)
-below_wrong (in_range_lem l) h = omega arith
+below_wrong (in_range l) h = omega arith
 
 below_beyond : {n : ℕ} → Stamp n → n < wrong → (n ≡ beyond → ⊥) → n < 2 ^ 62
 below_beyond (no_timestamp e) w h = absurd (omega (arith, e, w))
 below_beyond (above_limit e) w h = absurd (h e)
-below_beyond (in_range_lem l) w h = l
+below_beyond (in_range l) w h = l
 
 abbrev then_order : ℕ → ℕ → Outcome Cue
 then_order a b = cond (ltb a b) (value (record { start = pos a; end = pos b })) (refused 13)

@@ -6,7 +6,7 @@ use Rattle.numbers.specs.Range.{outside}
 use Rattle.numbers.proofs.Between.{natural_within, inside_pos}
 use Rattle.labels.specs.Webvtt.{last_position}
 use Rattle.labels.specs.Timestamps.{is_timestamp, position_of, position_answer}
-use Rattle.labels.specs.Stamps.{wrong, beyond, stamp_of, Stamp, no_timestamp, above_limit, in_range_lem}
+use Rattle.labels.specs.Stamps.{wrong, beyond, stamp_of, Stamp, no_timestamp, above_limit, in_range}
 
 -- a text that is no timestamp
 pub no_stamp : (text : List ℕ) → (is_timestamp text ≡ true → ⊥) → wrong ≡ stamp_of text
@@ -46,7 +46,7 @@ by_stamp {G} text none_there high given = go (is_timestamp text) (outside (pos 0
 
 stamp_of_lem : (text : List ℕ) → Stamp (stamp_of text)
 stamp_of_lem text =
-    by_stamp text (λ t e. no_timestamp e) (λ t o e. above_limit e) (λ t o e l. in_range_lem (omega (arith, e, l)))
+    by_stamp text (λ t e. no_timestamp e) (λ t o e. above_limit e) (λ t o e l. in_range (omega (arith, e, l)))
 
 pub stamped : {n : ℕ} (text : List ℕ) → n ≡ stamp_of text → Stamp n
 stamped text e = subst Stamp (sym e) (stamp_of_lem text)

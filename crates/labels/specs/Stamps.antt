@@ -22,7 +22,7 @@ stamp_of text = cond (is_timestamp text) (cond (outside (pos 0) last_position (p
 pub data Stamp (n : ℕ) : Type 0 where
   no_timestamp : n ≡ wrong → Stamp n
   above_limit : n ≡ beyond → Stamp n
-  in_range_lem : n < beyond → Stamp n
+  in_range : n < beyond → Stamp n
 
 -- one more digit, unless the number is above 999 already
 abbrev pub one_more : (so_far byte : ℕ) → ℕ

@@ -133,8 +133,8 @@ pub fn cue(answer: CueAnswer, place: &mut [i64; 2]) -> i64
 }
 
 pub fn index(answer: IndexAnswer, place: &mut i64) -> i64
-    requires by_index { (n : ℕ) → index_outcome answer ≡ value n → n < 2 ^ 63 }
-    requires by_index_2 { (number place : ℕ) → index_outcome answer ≡ refused_at number place → place < 2 ^ 63 }
+    requires count_fits { (n : ℕ) → index_outcome answer ≡ value n → n < 2 ^ 63 }
+    requires place_fits { (number place : ℕ) → index_outcome answer ≡ refused_at number place → place < 2 ^ 63 }
     ensures answer { result ≡ returned_count (index_outcome answer) }
     ensures place { place.new ≡ after_refusal (index_outcome answer) place.old }
 {

@@ -114,7 +114,7 @@ module _ (year : ℤ) (h : outside first_week_year last_week_year year ≡ false
             let w = natural_within 1 (pos 7) weekday q in
             day_of_lem (nat_abs week) (nat_abs weekday) v.is w.is
             (record { week_low = v.low; week_high = omega (arith, v.high, e); day_low = w.low; day_high = w.high });
-        week_of_lem = λ week weekday a.
+        week_of = λ week weekday a.
             let b = day_has a in
             let k = (week_has a).0 in
             ap (outside (pos 1) (pos last)) b.week_is ∙ inside_pos 1 last b.w k.week_low (omega (arith, k.week_high, e));
@@ -134,7 +134,7 @@ module _ (year : ℤ) (h : outside first_week_year last_week_year year ≡ false
     where
       go : (s t : Bool) → outside (pos 1) (pos (weeks number)) week ≡ s → outside (pos 1) (pos 7) weekday ≡ t →
           DayOf year week weekday ⊎ (DayOf year week weekday → ⊥)
-      go true t p q = inr (λ a. no_both _ p ((weeks_of (weeks number) refl).week_of_lem week weekday a))
+      go true t p q = inr (λ a. no_both _ p ((weeks_of (weeks number) refl).week_of week weekday a))
       go false true p q = inr (λ a. no_both _ q ((weeks_of (weeks number) refl).weekday_of week weekday a))
       go false false p q = inl ((weeks_of (weeks number) refl).each week weekday p q)
 
@@ -254,7 +254,7 @@ pub week_date_is_right : (z : ℤ) → outside first_count last_count z ≡ fals
     (outside (pos 1) (pos 53) (week_date_of z).week ≡ false) × (outside (pos 1) (pos 7) (week_date_of z).weekday ≡ false)
 week_date_is_right z h =
     let w = week_date_of z in (
-      ⊎_elim (λ a. wider (pos 1) (pos 52) (pos 1) (pos 53) w.week refl refl (a.week_of_lem w.week w.weekday (record { day = z; has = refl }))) (λ a. a.week_of_lem w.week w.weekday (record { day = z; has = refl }))
+      ⊎_elim (λ a. wider (pos 1) (pos 52) (pos 1) (pos 53) w.week refl refl (a.week_of w.week w.weekday (record { day = z; has = refl }))) (λ a. a.week_of w.week w.weekday (record { day = z; has = refl }))
           (fifty_two_or_fifty_three w.year (week_year_is_in_range z h)),
       ap (outside (pos 1) (pos 7)) (week_date_weekday z) ∙ weekday_is_in_range z,
     )

@@ -26,5 +26,5 @@ pub record RightDate (d : Date) : Type 0 where
 -- a year has the weeks 1 to last, each of the weekdays 1 to 7, and no other
 pub record HasWeeks (year : ℤ) (last : ℕ) : Type 0 where
   pub each : (week weekday : ℤ) → outside (pos 1) (pos last) week ≡ false → outside (pos 1) (pos 7) weekday ≡ false → DayOf year week weekday
-  pub week_of_lem : (week weekday : ℤ) → DayOf year week weekday → outside (pos 1) (pos last) week ≡ false
+  pub week_of : (week weekday : ℤ) → DayOf year week weekday → outside (pos 1) (pos last) week ≡ false
   pub weekday_of : (week weekday : ℤ) → DayOf year week weekday → outside (pos 1) (pos 7) weekday ≡ false

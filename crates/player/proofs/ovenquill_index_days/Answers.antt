@@ -8,7 +8,7 @@ use Rattle.player.proofs.ovenquill_index_days.Goals as goal
 pub index-requires : goal.index-requires
 index-requires c =
     let same = c.index_days.ensures.answer in
-    record { by_index = count_fits _ _ (omega arith) same; by_index_2 = place_fits _ _ (omega arith) same }
+    record { count_fits = count_fits _ _ (omega arith) same; place_fits = place_fits _ _ (omega arith) same }
 
 pub returns : goal.returns
 returns c =

@@ -33,15 +33,15 @@ last_is c =
 pub overflow_cast-first : goal.overflow_cast-first
 overflow_cast-first c =
     let s = c.before.before.before.before.before in
-    subst (SFits w32) (sym (first_is (goal.at.overflow_cast-first c).After-day-first)) (day_fits (get_or s.args.instants.now 0 (pos 0)) (s.requires.instants_len_2.1.0 0 (omega arith)))
+    subst (SFits w32) (sym (first_is (goal.at.overflow_cast-first c).After-day-first)) (day_fits (get_or s.args.instants.now 0 (pos 0)) (s.requires.fits.1.0 0 (omega arith)))
 
 pub returns-then-first-day : goal.returns-then-first-day
 returns-then-first-day c =
     let s = c.before.before.before.before.before.before.before.before in
     let first = first_is (goal.at.returns-then-first-day c).After-day-first in
     let same = sym first ∙ ap (to_z w64) c.if-first-day.true ∙ last_is (goal.at.returns-then-first-day c).After-day in
-    let n : length s.args.days.now ≡ length s.args.instants.now = sym s.requires.instants_len_2.0 in
+    let n : length s.args.days.now ≡ length s.args.instants.now = sym s.requires.fits.0 in
     c.fill_same.ensures
     ∙ ap (λ (z : ℤ). replicate (length s.args.days.now) z) (to_z-of_z (overflow_cast-first c.before.before.before) ∙ first)
     ∙ ap (λ (n : ℕ). replicate n (day_of (get_or s.args.instants.now 0 (pos 0)))) n
-    ∙ same_days s.args.instants.now 15 s.requires.instants_len s.requires.instants_len_2.1.1 same
+    ∙ same_days s.args.instants.now 15 s.requires.sixteen s.requires.fits.1.1 same

@@ -21,8 +21,8 @@ fill_block-requires c =
     let d : l.i + 16 ≤ length l.days = omega (arith, l.invariant.1.0, s.requires.0) in
     let p = part_length s.args.instants.now l.i (l.i + 16) (omega arith) n in
     record {
-      instants_len = omega (arith, p);
-      instants_len_2 = (
+      sixteen = omega (arith, p);
+      fits = (
         p ∙ sym (part_length l.days l.i (l.i + 16) (omega arith) d),
         (
           part_in_range s.args.instants.now l.i (l.i + 16) (omega arith) n s.requires.1.0,

@@ -11,17 +11,17 @@ use Rattle.player.proofs.give.index.Goals as goal
 -- Each case returns, and leaves in the place, what its outcome says; the count and an instant's place fit by what is required.
 pub overflow_cast-result : goal.overflow_cast-result
 overflow_cast-result c =
-    let small = c.requires.by_index c.in-Written.count (ap index_outcome c.in-Written.is) in
+    let small = c.requires.count_fits c.in-Written.count (ap index_outcome c.in-Written.is) in
     pos_fits (omega arith)
 
 pub overflow_cast-place : goal.overflow_cast-place
 overflow_cast-place c =
-    pos_fits (c.requires.by_index_2 _ c.in-RefusedAt.at (ap index_outcome c.in-RefusedAt.is))
+    pos_fits (c.requires.place_fits _ c.in-RefusedAt.at (ap index_outcome c.in-RefusedAt.is))
 
 pub returns-in-Written : goal.returns-in-Written
 returns-in-Written c =
     let s = c.before in
-    let count = to_z_pos w64 (s.requires.by_index c.in-Written.count (ap index_outcome c.in-Written.is)) in
+    let count = to_z_pos w64 (s.requires.count_fits c.in-Written.count (ap index_outcome c.in-Written.is)) in
     let both = refusal_placed (ap index_outcome (sym c.in-Written.is)) returned_count s.args.place.now (count, refl) in record { answer = both.0; place = both.1 }
 
 pub returns-in-Refused : goal.returns-in-Refused
@@ -33,7 +33,7 @@ returns-in-Refused c =
 pub returns-in-RefusedAt : goal.returns-in-RefusedAt
 returns-in-RefusedAt c =
     let s = c.before.before in
-    let place = to_z_pos w64 (s.requires.by_index_2 _ c.in-RefusedAt.at (ap index_outcome c.in-RefusedAt.is)) in
+    let place = to_z_pos w64 (s.requires.place_fits _ c.in-RefusedAt.at (ap index_outcome c.in-RefusedAt.is)) in
     let both = refusal_placed (ap index_outcome (sym c.in-RefusedAt.is)) returned_count s.args.place.now (as_read c.negated-in-RefusedAt.type_inv c.negated-in-RefusedAt.ensures, place) in record { answer = both.0; place = both.1 }
 
 pub enum_known-answer : goal.enum_known-answer
