@@ -20,9 +20,9 @@ VERSION := $(subst $() ,.,$(strip $(shell sed -n 's/^.define OVENQUILL_VERSION_[
 
 all: $(LIB) $(CHECK_SHEET) $(EXAMPLES)
 
-# The archive: proved first, and only then built.
+# The archive: proved first, and only then built, for every x86-64; the kit's own choice is x86-64-v2.
 $(LIB): $(RATTLE)
-	cd crates/player && rt lib
+	cd crates/player && rt lib --cpu=x86-64
 	mkdir -p build/lib
 	cp crates/player/out/libplayer.a $@
 

@@ -6,8 +6,8 @@
  * For C99, C++11 and later ones. Link with libovenquill.a; after `make install`, `pkg-config --cflags --libs ovenquill` says
  * how.
  *
- * The archive is for x86-64 from SSE4.2 on (x86-64-v2) with ELF and is position independent: it also goes into a shared library.
- * Header and archive go together: nothing tells at run time that they are of different versions.
+ * The archive is for x86-64 with ELF and is position independent: it also goes into a shared library. Header and archive go
+ * together: nothing tells at run time that they are of different versions.
  *
  * Any numbers and any bytes may be handed in. A call allocates nothing, keeps no state (a transport clock is the caller's),
  * calls no function outside the archive, leaves errno alone and needs less than 1 KiB of stack: it may be made from any thread

@@ -2,8 +2,7 @@
 //! labels (WebVTT timestamps) and cue lines, a checker of multiply-and-shift constants, sheets of claims about them, and a
 //! follower of the 33-bit transport clock, proved right.
 //!
-//! This package is a safe wrapper over the archive `libovenquill.a`, whose functions are proved to meet their contracts, and which is
-//! for x86-64 from SSE4.2 on (x86-64-v2).
+//! This package is a safe wrapper over the archive `libovenquill.a`, whose functions are proved to meet their contracts.
 //! What the wrapper itself does is small: it lends the calls places for their answers and gives the numbers of refusals
 //! their names. It allocates nothing, keeps no state, needs no `std` and panics on no input.
 //!
