@@ -1,3 +1,4 @@
+-- The date is accepted or refused by itself; then the shift is tested against what the range leaves on either side of its count.
 use Rattle.calendar.proofs.Dates.{days_inside, added_inside, added_outside, not_added}
 use Rattle.calendar.proofs.Shift.{first_subtracts, last_subtracts, sum_tested, sum_fits, sum_is}
 use Rattle.calendar.proofs.Tests.{days_read}

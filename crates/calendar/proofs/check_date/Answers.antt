@@ -1,3 +1,4 @@
+-- The year and the month are accepted or refused by themselves; then the day is tested.
 use Rattle.calendar.specs.Answers.{of_date}
 use Rattle.calendar.specs.Closed.{leap_day, month_days}
 use Rattle.calendar.specs.Range.{first_year, last_year}
@@ -14,7 +15,6 @@ use mathlib.Core.Path.{◌≡◌, sym, ◌∙◌}
 use Rattle.calendar.proofs.check_date.Goals as goal
 use Rattle.calendar.proofs.check_date.Goals.{Else-not-has_day, Else-outside-2, Start}
 
--- The year and the month are accepted or refused by themselves; then the day is tested.
 pub returns-then-outside : goal.returns-then-outside
 unfolding of_date
 returns-then-outside c = (rw (answered first_year last_year c.ranges.year c.outside.ensures c.if-outside.true), tt)

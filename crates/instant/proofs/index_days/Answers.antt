@@ -1,3 +1,4 @@
+-- Each way out is decided by the tests that led there.
 use Rattle.instant.proofs.Lists.{bad_le, all_good, unequal, bad_found, fall_found, none_found, held}
 use Rattle.instant.proofs.Falls.{never_falls}
 use Rattle.instant.proofs.Faults.{faultless, fault_falls}
@@ -8,7 +9,6 @@ use Rattle.instant.specs.Answers.{first_bad}
 use mathlib.Core.Path.{◌≡◌, sym, ap, ◌∙◌}
 use Rattle.instant.proofs.index_days.Goals as goal
 
--- Each way out is decided by the tests that led there.
 pub returns-then-count-days : goal.returns-then-count-days
 returns-then-count-days c = let a = c.args in
     let e = unequal a.instants.now a.days.now c.if-count-days.true in

@@ -1,3 +1,4 @@
+-- The date and the time are accepted or refused each by itself; accepted, their sum is in the range and fits.
 use Rattle.instant.proofs.Joined.{time_read, date_decided, time_decided, Both, multiplies, adds, answers}
 use Rattle.instant.specs.Checked.{time_answer}
 use Rattle.calendar.specs.Answers as calendar

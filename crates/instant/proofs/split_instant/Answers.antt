@@ -1,3 +1,4 @@
+-- The day of an instant in the range is in the calendar's range, so the calendar answers its date.
 use Rattle.instant.proofs.Ranges.{day_inside, time_below, dated}
 use Rattle.instant.specs.Answers.{split_answer, bad_instant}
 use Rattle.instant.specs.Instant.{day_of, time_of, fields_at, fields_of}

@@ -1,10 +1,10 @@
+-- What is returned, and what the place holds then, is what the call answered: a number below the bound, which fits.
 use Rattle.constants.specs.Answers.{bound_answer}
 use Rattle.player.specs.Returned.{returned_done}
 use Rattle.player.proofs.Answered.{as_read, eight_read, refusal_placed}
 use Rattle.player.proofs.Fitting.{least_fits}
 use Rattle.player.proofs.ovenquill_check_bound.Goals as goal
 
--- What is returned, and what the place holds then, is what the call answered: a number below the bound, which fits.
 pub claim-requires : goal.claim-requires
 claim-requires c = least_fits _ _ _ _ _ _ _ c.ranges.bound c.check_bound.ensures.answer
 

@@ -1,3 +1,4 @@
+-- What is returned, and what the place holds then, is what the call answered.
 use mathlib.Core.Path.{ap, ◌∙◌}
 use mir.Facts.{to_z-of_z}
 use Rattle.calendar.specs.Answers.{civil_answer}
@@ -5,7 +6,6 @@ use Rattle.player.specs.Returned.{date_numbers}
 use Rattle.player.proofs.Answered.{as_read, placed}
 use Rattle.player.proofs.ovenquill_civil_from_days_plain.Goals as goal
 
--- What is returned, and what the place holds then, is what the call answered.
 pub returns : goal.returns
 returns c =
     let f = c.ranges in

@@ -1,10 +1,10 @@
+-- What is returned, and what the place holds then, is what the call answered.
 use mathlib.Core.Path.{ap, ◌∙◌}
 use mir.Facts.{to_z-of_z}
 use Rattle.instant.specs.Answers.{day_answer}
 use Rattle.player.proofs.Answered.{as_read, placed}
 use Rattle.player.proofs.ovenquill_day_of_instant.Goals as goal
 
--- What is returned, and what the place holds then, is what the call answered.
 pub returns : goal.returns
 returns c =
     let f = c.ranges in

@@ -1,10 +1,10 @@
+-- What is returned, and what the place holds then, is what the call answered.
 use mathlib.Core.Path.{◌∙◌}
 use mir.Facts.{to_z-of_z}
 use Rattle.week.specs.Answers.{week_days_answer}
 use Rattle.player.proofs.Answered.{as_read, placed}
 use Rattle.player.proofs.ovenquill_days_from_week.Goals as goal
 
--- What is returned, and what the place holds then, is what the call answered.
 pub returns : goal.returns
 returns c =
     let f = c.ranges in

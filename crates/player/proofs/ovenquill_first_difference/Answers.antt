@@ -1,3 +1,4 @@
+-- What is returned is what the call answered: a number below the end, which fits, or the end.
 use mathlib.Core.Path.{◌∙◌}
 use mir.Facts.{to_z-of_z}
 use Rattle.constants.specs.Answers.{difference_answer}
@@ -6,7 +7,6 @@ use Rattle.player.proofs.Answered.{as_read, eight_read}
 use Rattle.player.proofs.Fitting.{found_fits}
 use Rattle.player.proofs.ovenquill_first_difference.Goals as goal
 
--- What is returned is what the call answered: a number below the end, which fits, or the end.
 pub returned_found-requires : goal.returned_found-requires
 returned_found-requires c = found_fits _ _ _ _ _ _ _ c.ranges.end c.first_difference.ensures.answer
 

@@ -1,3 +1,4 @@
+-- What is returned, and what the clock's numbers are then, is what the call answered.
 use mathlib.Core.Path.{ap₂, ◌∙◌}
 use lib.IntN.{pos}
 use lib.ListN.{get_or}
@@ -10,7 +11,6 @@ use Rattle.player.specs.Returned.{returned_milliseconds, clock_numbers, clock_fr
 use Rattle.player.proofs.Answered.{as_read, returned_and_placed}
 use Rattle.player.proofs.ovenquill_follow.Goals as goal
 
--- What is returned, and what the clock's numbers are then, is what the call answered.
 pub returns : goal.returns
 unfolding clock_after_value
 returns c =

@@ -1,3 +1,4 @@
+-- What is returned, and what the clock's numbers are then, is what the call answered; at most all values are passed over, and these fit.
 use mathlib.Core.Path.{ap, ap₂, ◌∙◌}
 use native.Mathlib.Omega.{arith}
 use lib.IntN.{pos}
@@ -14,7 +15,6 @@ use Rattle.player.proofs.Answered.{as_read}
 use Rattle.player.proofs.ClockPlace.{batch_place}
 use Rattle.player.proofs.ovenquill_follow_all.Goals as goal
 
--- What is returned, and what the clock's numbers are then, is what the call answered; at most all values are passed over, and these fit.
 pub followed_all-requires : goal.followed_all-requires
 followed_all-requires c =
     let f = c.before in

@@ -1,10 +1,10 @@
+-- What is returned, and what the place holds then, is what the call answered: a count or a place of a slice, which fits.
 use native.Mathlib.Omega.{arith}
 use Rattle.player.specs.Returned.{returned_count}
 use Rattle.player.proofs.Answered.{as_read, refusal_placed}
 use Rattle.player.proofs.Fitting.{count_fits, place_fits}
 use Rattle.player.proofs.ovenquill_index_days.Goals as goal
 
--- What is returned, and what the place holds then, is what the call answered: a count or a place of a slice, which fits.
 pub index-requires : goal.index-requires
 index-requires c =
     let same = c.index_days.ensures.answer in

@@ -1,8 +1,8 @@
+-- What is returned, and what the place holds then, is what the call answered.
 use Rattle.instant.specs.Answers.{join_answer}
 use Rattle.player.proofs.Answered.{as_read, seven_read, placed}
 use Rattle.player.proofs.ovenquill_join_instant.Goals as goal
 
--- What is returned, and what the place holds then, is what the call answered.
 pub returns : goal.returns
 returns c =
     let f = c.ranges in

@@ -1,3 +1,4 @@
+-- What is returned, and what the place holds then, is what the call answered: a number of 32 bits, which fits.
 use mathlib.Core.Path.{ap, ◌∙◌}
 use mir.Facts.{to_z-of_z}
 use Rattle.sheet.specs.Answers.{check_answer}
@@ -6,7 +7,6 @@ use Rattle.player.proofs.Answered.{as_read, refusal_placed}
 use Rattle.player.proofs.Fitting.{check_fits}
 use Rattle.player.proofs.ovenquill_sheet_check.Goals as goal
 
--- What is returned, and what the place holds then, is what the call answered: a number of 32 bits, which fits.
 pub claim-requires : goal.claim-requires
 claim-requires c = check_fits c.args.sheet.now _ c.check_record.ensures.answer
 

@@ -1,9 +1,9 @@
+-- What is returned, and what the place holds then, is what the call answered: numbers that fit.
 use Rattle.player.specs.Returned.{returned_records, length_of_note}
 use Rattle.player.proofs.Answered.{as_read, returned_and_placed}
 use Rattle.player.proofs.Fitting.{contents_fit}
 use Rattle.player.proofs.ovenquill_sheet_read.Goals as goal
 
--- What is returned, and what the place holds then, is what the call answered: numbers that fit.
 pub contents-requires : goal.contents-requires
 contents-requires c = contents_fit c.args.sheet.now c.read.ensures.answer
 

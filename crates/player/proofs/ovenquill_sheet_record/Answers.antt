@@ -1,3 +1,4 @@
+-- What is returned, and what the place holds then, is what the call answered.
 use mathlib.Core.Path.{ap, ◌∙◌}
 use mir.Facts.{to_z-of_z}
 use Rattle.sheet.specs.Answers.{record_answer}
@@ -5,7 +6,6 @@ use Rattle.player.specs.Returned.{record_numbers}
 use Rattle.player.proofs.Answered.{as_read, placed}
 use Rattle.player.proofs.ovenquill_sheet_record.Goals as goal
 
--- What is returned, and what the place holds then, is what the call answered.
 pub returns : goal.returns
 returns c =
     let s = c.before.before.before.before in

@@ -1,3 +1,4 @@
+-- What is returned is what the call answered: not more bytes than the buffer has, which fits.
 use mathlib.Core.Path.{ap, ◌∙◌}
 use native.Mathlib.Omega.{arith}
 use Rattle.sheet.specs.Answers.{sheet_text}
@@ -6,7 +7,6 @@ use Rattle.player.proofs.Answered.{as_read}
 use Rattle.player.proofs.Fitting.{bytes_fit}
 use Rattle.player.proofs.ovenquill_sheet_write.Goals as goal
 
--- What is returned is what the call answered: not more bytes than the buffer has, which fits.
 pub returned_bytes-requires : goal.returned_bytes-requires
 returned_bytes-requires c =
     let a = c.args in

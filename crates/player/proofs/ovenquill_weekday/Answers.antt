@@ -1,3 +1,4 @@
+-- What is returned is what the call answered.
 use mathlib.Core.Path.{ap, ◌∙◌}
 use mir.Facts.{to_z-of_z}
 use Rattle.calendar.specs.Answers.{weekday_answer}
@@ -5,7 +6,6 @@ use Rattle.player.specs.Returned.{returned}
 use Rattle.player.proofs.Answered.{as_read}
 use Rattle.player.proofs.ovenquill_weekday.Goals as goal
 
--- What is returned is what the call answered.
 pub returns : goal.returns
 returns c =
     let f = c.ranges in

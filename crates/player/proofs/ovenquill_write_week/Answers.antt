@@ -1,10 +1,10 @@
+-- What is returned is what the call answered: not more bytes than the buffer has, which fits.
 use native.Mathlib.Omega.{arith}
 use Rattle.labels.specs.IsoWeek.{week_label}
 use Rattle.player.proofs.Answered.{as_read, label_written}
 use Rattle.player.proofs.Fitting.{bytes_fit}
 use Rattle.player.proofs.ovenquill_write_week.Goals as goal
 
--- What is returned is what the call answered: not more bytes than the buffer has, which fits.
 pub returned_bytes-requires : goal.returned_bytes-requires
 returned_bytes-requires c =
     let a = c.args in

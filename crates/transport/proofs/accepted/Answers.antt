@@ -1,3 +1,4 @@
+-- Both numbers fit, being at most 2^53.
 use mathlib.Core.Path.{ap, ap₂, ◌∙◌}
 use native.Mathlib.Omega.{arith}
 use lib.IntN.{pos}
@@ -8,7 +9,6 @@ use Rattle.numbers.proofs.Machine.{pos_fits}
 use Rattle.transport.specs.declared.Clock.TheVariants.{At}
 use Rattle.transport.proofs.accepted.Goals as goal
 
--- Both numbers fit, being at most 2^53.
 pub returns : goal.returns
 returns c =
     let t = c.args.ticks in

@@ -1,3 +1,4 @@
+-- A value that the clock has is its own position where nothing has been heard, and else goes on from the position.
 use mathlib.Core.Path.{sym, ap, ap₂, ◌∙◌}
 use native.Mathlib.Omega.{arith}
 use lib.IntN.{pos}
@@ -13,7 +14,6 @@ use Rattle.transport.specs.declared.Clock.TheVariants.{Nothing, At}
 use Rattle.transport.proofs.Answered.{when_refused, when_accepted, no_value, first_value, read_is}
 use Rattle.transport.proofs.follow.Goals as goal
 
--- A value that the clock has is its own position where nothing has been heard, and else goes on from the position.
 pub returns-then-outside : goal.returns-then-outside
 returns-then-outside c =
     let s = c.before.before.before in

@@ -1,3 +1,4 @@
+-- The position handed in and the position reached are tested in turn.
 use Prim.Native.Nat.{◌-◌}
 use mathlib.Core.Path.{◌≡◌, refl, sym, ap, ◌∙◌}
 use mathlib.Core.Bool.{false}
@@ -15,7 +16,6 @@ use Rattle.transport.proofs.Answered.{when_refused, when_accepted, bad_clock_lem
 use Rattle.transport.proofs.next.Goals as goal
 use Rattle.transport.proofs.next.Goals.{After-lands}
 
--- The position handed in and the position reached are tested in turn.
 pub returns-then-outside : goal.returns-then-outside
 returns-then-outside c =
     let s = c.before.before.before in

@@ -1,3 +1,4 @@
+-- The year, the week and the weekday are tested; then there is one day, which may lie outside the range.
 use Prim.Native.Nat.{ℕ, ◌≤◌}
 use mathlib.Core.Path.{◌≡◌, sym, ap, ap₂, ◌∙◌}
 use mathlib.Core.Bool.{Bool, true, false, cond, not}
@@ -20,7 +21,6 @@ use Rattle.week.proofs.Answers.{no_week, one_day}
 use Rattle.week.proofs.days_from_week.Goals as goal
 use Rattle.week.proofs.days_from_week.Goals.{then-not-has_week-via-then-not-has_week, then-not-has_week-via-else-not-has_week+then-outside-2, After-day, After-has_week, After-years_from_base-y, Else-outside-2, Start}
 
--- The year, the week and the weekday are tested; then there is one day, which may lie outside the range.
 pub returns-then-outside : goal.returns-then-outside
 unfolding week_days_answer
 returns-then-outside c = rw (answered first_week_year last_week_year c.ranges.year c.outside.ensures c.if-outside.true)

@@ -1,3 +1,4 @@
+-- The Thursday of the week, from the base on.
 use Prim.Native.Nat.{ℕ, ◌+◌, ◌-◌, ◌/◌, ◌%◌, ◌^◌, ◌≤◌, ◌<◌}
 use mathlib.Core.Path.{◌≡◌, refl, sym, ap, ◌∙◌, subst}
 use native.Mathlib.Omega.{arith}
@@ -16,7 +17,6 @@ use Rattle.week.proofs.Weeks.{weekday_at, week_date_at}
 use Rattle.week.proofs.week_date.Goals as goal
 use Rattle.week.proofs.week_date.Goals.{After-days_from_base, After-of_day-thursday, Start}
 
--- The Thursday of the week, from the base on.
 -- a count in the range is the base and a natural number, which tells the weekday
 module _ (s : Start) where
   abbrev number : ℕ

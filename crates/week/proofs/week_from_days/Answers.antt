@@ -1,3 +1,4 @@
+-- The calendar's weekday says whether the count is in the range.
 use Prim.Native.Nat.{ℕ}
 use mathlib.Core.Path.{◌≡◌, sym, ap, ◌∙◌}
 use mathlib.Core.Bool.{false}
@@ -18,7 +19,6 @@ use Rattle.week.specs.Answers.{week_answer}
 use Rattle.week.proofs.week_from_days.Goals as goal
 use Rattle.week.proofs.week_from_days.Goals.{In-Value}
 
--- The calendar's weekday says whether the count is in the range.
 -- what an accepted weekday says of the count
 accepted : (z d : ℤ) → value d ≡ weekday_answer z → (outside first_count last_count z ≡ false) × (d ≡ weekday z)
 unfolding weekday_answer

@@ -1,3 +1,4 @@
+-- Each arm has the length of its month, and there is no other month.
 use mathlib.Core.Path.{◌≡◌, refl}
 use Rattle.calendar.proofs.Months.{each_month}
 use Rattle.calendar.proofs.day_test.common_length.Goals as goal

@@ -1,3 +1,4 @@
+-- The fewest periods that close a gap, and the least residue whose gap they close.
 use mathlib.Core.Path.{sym, subst}
 use native.Mathlib.Nat.{mul-le-mul, pos_of_ne-zero}
 use native.Mathlib.Omega.{arith}

@@ -1,3 +1,4 @@
+-- The loop's invariant: some residue below `high` has a gap within the bound, and none below `low`.
 use Prim.Native.Nat.{◌-◌, ◌≤◌, ◌<◌}
 use Rattle.constants.specs.Residues.{SomeGap}
 use Rattle.constants.proofs.search.first_within.Given as goal

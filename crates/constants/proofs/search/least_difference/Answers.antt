@@ -1,3 +1,4 @@
+-- The least on either side.
 use Prim.Native.Nat.{ℕ, ◌-◌, ◌*◌, ◌%◌, ◌^◌}
 use mathlib.Core.Bool.{true, false}
 use mathlib.Core.Path.{◌≡◌, ap, ◌∙◌}
@@ -10,7 +11,6 @@ use Rattle.constants.proofs.search.least_difference.Lts as lts
 use Rattle.constants.proofs.search.least_difference.Reads as reads
 use Rattle.constants.proofs.search.least_difference.Goals as goal
 
--- The least on either side.
 -- the shifted 1
 power_is : (s : lts.Start tie.the-claims reads.Pre reads.Post) → 1 * 2 ^ s.args.q.k % 2 ^ 64 ≡ 2 ^ s.args.q.k
 power_is s = one_shifted s.args.q.k (omega (arith, s.requires.0.k_hi))

@@ -1,8 +1,8 @@
+-- The gaps are those of a line against a staircase.
 use native.Mathlib.Omega.{arith}
 use Rattle.constants.proofs.Sides.{first_up, line_gaps, stairs_gaps, line_fits, stairs_fits}
 use Rattle.constants.proofs.search.least_gap.Goals as goal
 
--- The gaps are those of a line against a staircase.
 pub overflow_add-s : goal.overflow_add-s
 overflow_add-s c = omega (arith, c.requires.0.have_lt)
 

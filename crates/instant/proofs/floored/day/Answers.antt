@@ -1,3 +1,4 @@
+-- The quotient toward zero, mended, is the floored one.
 use Rattle.numbers.proofs.Mended.{divides, floored, floored_fits}
 use Rattle.instant.specs.Units.{per_day}
 use Rattle.instant.specs.Instant.{day_of}
@@ -9,7 +10,6 @@ use mathlib.Core.Path.{sym, ◌∙◌, subst}
 use borrow.Author.Rules.{rules}
 use Rattle.instant.proofs.floored.day.Goals as goal
 
--- The quotient toward zero, mended, is the floored one.
 pub nonzero_div-result : goal.nonzero_div-result
 nonzero_div-result c = (lit< tt, divides c.args.instant per_day c.ranges.instant (lit< tt))
 

@@ -1,3 +1,4 @@
+-- The remainder toward zero, mended, is the floored one.
 use Rattle.numbers.proofs.Mended.{divides, multiplies, remains, remains_fits}
 use Rattle.instant.specs.Units.{per_day}
 use Rattle.instant.specs.Instant.{time_of}
@@ -9,7 +10,6 @@ use mathlib.Core.Path.{sym, ◌∙◌, subst}
 use borrow.Author.Rules.{rules}
 use Rattle.instant.proofs.floored.time.Goals as goal
 
--- The remainder toward zero, mended, is the floored one.
 pub nonzero_rem-rest : goal.nonzero_rem-rest
 nonzero_rem-rest c = (lit< tt, divides c.args.instant per_day c.ranges.instant (lit< tt))
 

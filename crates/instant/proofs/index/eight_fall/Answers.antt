@@ -1,3 +1,4 @@
+-- The tests are those of the eight places, one behind the other.
 use Rattle.instant.proofs.Faults.{by_places}
 use mir.Facts.{to_z-of_z}
 use mir.Val.{SFits}
@@ -9,7 +10,6 @@ use mathlib.Core.Path.{sym}
 use borrow.Author.Rules.{rules}
 use Rattle.instant.proofs.index.eight_fall.Goals as goal
 
--- The tests are those of the eight places, one behind the other.
 pub returns : goal.returns
 returns c =
     let b = c.before.before.before.before.before.before.before.before.before.before.before.before.before.before.before in

@@ -1,3 +1,4 @@
+-- Between a first and a last instant of one day no instant has another day.
 use Rattle.instant.specs.Instant.{day_of}
 use Rattle.instant.proofs.Blocks.{same_days}
 use Rattle.instant.proofs.Ranges.{day_fits}
@@ -14,7 +15,6 @@ use borrow.Author.Rules.{rules}
 use Rattle.instant.proofs.index.fill_block.Goals as goal
 use Rattle.instant.proofs.index.fill_block.Goals.{After-day, After-day-first}
 
--- Between a first and a last instant of one day no instant has another day.
 -- the day of the first instant, as its local holds it
 first_is : (c : After-day-first) → read c.day-first.result ≡ day_of (get_or c.args.instants.now 0 (pos 0))
 first_is c =

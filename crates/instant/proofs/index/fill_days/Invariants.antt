@@ -1,3 +1,4 @@
+-- The list is the days of the first i instants, and behind them what it held before.
 use Rattle.instant.specs.Instant.{day_of}
 use lib.ListN.{length}
 use lib.Seq.{paste}

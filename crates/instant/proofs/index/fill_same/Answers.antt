@@ -1,3 +1,4 @@
+-- The first days are the one day, and behind them stands what the list held before.
 use Rattle.instant.proofs.Lists.{filled_one, filled}
 use mir.Facts.{to_z-of_z}
 use mir.Val.{to_z, of_z}
@@ -10,7 +11,6 @@ use mathlib.Core.List.{List}
 use mathlib.Core.Path.{refl, sym, ap, ◌∙◌}
 use Rattle.instant.proofs.index.fill_same.Goals as goal
 
--- The first days are the one day, and behind them stands what the list held before.
 -- what the local of a day holds
 abbrev read : ℤ → ℤ
 read day = to_z w32 (of_z w32 day)

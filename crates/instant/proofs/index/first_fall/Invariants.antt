@@ -1,3 +1,4 @@
+-- The first fall is `earlier` and the first fall of what is left from there on.
 use Rattle.instant.specs.Answers.{first_fall}
 use lib.ListN.{length, drop}
 use Prim.Native.Nat.{◌+◌, ◌-◌, ◌≤◌}

@@ -1,3 +1,4 @@
+-- What is left from `i` on goes on from the instant before it.
 use Rattle.instant.specs.Units.{last_instant}
 use Rattle.instant.specs.Checked.{falls_from, faulty}
 use lib.ListN.{length, drop}

@@ -1,3 +1,4 @@
+-- Fields that pass the tests are small natural numbers.
 use Rattle.instant.proofs.Times.{NaturalTime, natural, timeℕ, time_is}
 use Rattle.instant.specs.Answers.{bad_time}
 use Rattle.instant.specs.Checked.{time_answer}
@@ -16,7 +17,6 @@ use mathlib.Core.Path.{◌≡◌, sym, ap, ◌∙◌}
 use Rattle.instant.proofs.time_of_day.check_time.Goals as goal
 use Rattle.instant.proofs.time_of_day.check_time.Goals.{Else-outside, Else-outside-2, Else-outside-3, Else-outside-4, Start}
 
--- Fields that pass the tests are small natural numbers.
 -- what the tests have shown, one after the other
 hour_inside : (c : Else-outside) → outside (pos 0) (pos 23) c.args.hour ≡ false
 hour_inside c = answered (pos 0) (pos 23) c.ranges.hour c.outside.ensures c.if-outside.false

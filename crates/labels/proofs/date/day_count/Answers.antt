@@ -1,3 +1,4 @@
+-- The month is tested by itself, and then the day against the length that the month's entry has; the sum is the day's number.
 use Rattle.labels.specs.Parts.{month_entry}
 use Rattle.labels.proofs.LabelDates.{entry_days, date_sum, date_sum_lem, count_fits, count_made}
 use Rattle.calendar.specs.Closed.{leap_day, month_days, Valid, day_number, to_year}
@@ -8,7 +9,6 @@ use Rattle.std.proofs.Common.{◌≡◌, ℕ, ◌+◌, ◌*◌, ◌%◌, ◌^◌
 use Rattle.labels.proofs.date.day_count.Goals as goal
 use Rattle.labels.proofs.date.day_count.Goals.{then-month-lt1-via-then-month-lt1, then-month-lt1-via-else-month-lt1+then-month-gt12, then-day-lt1-via-then-day-lt1, then-day-lt1-via-else-day-lt1+then-day-entry, After-month_entry-entry, Start}
 
--- The month is tested by itself, and then the day against the length that the month's entry has; the sum is the day's number.
 -- the label's year, which is one of the range
 abbrev year_of : Start → ℕ
 year_of c = 100 * c.args.century + c.args.year

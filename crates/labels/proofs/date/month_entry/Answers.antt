@@ -1,3 +1,4 @@
+-- Each arm has the entry that its key stands for.
 use Rattle.labels.specs.Parts.{month_entry}
 use Rattle.labels.proofs.LabelDates.{entry_at, no_key_left}
 use Rattle.calendar.specs.Closed.{before, month_days}

@@ -1,3 +1,4 @@
+-- The rooms of the bytes of the shape make the list that becomes the number.
 use Rattle.std.proofs.Common.{map, length}
 use Rattle.labels.specs.Words.{room_one}
 use Rattle.text.proofs.Words.{Made}

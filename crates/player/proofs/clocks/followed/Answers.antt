@@ -1,3 +1,4 @@
+-- Each case returns, and leaves in the place, what its outcome says.
 use mathlib.Core.Path.{refl, sym, ap}
 use mathlib.Core.List.{◌∷◌}
 use lib.IntN.{pos}
@@ -6,7 +7,6 @@ use Rattle.player.specs.Returned.{returned_milliseconds, clock_numbers}
 use Rattle.player.proofs.Answered.{as_read, cons_read, returned_and_placed}
 use Rattle.player.proofs.clocks.followed.Goals as goal
 
--- Each case returns, and leaves in the place, what its outcome says.
 pub returns-in-Value : goal.returns-in-Value
 returns-in-Value c =
     let s = c.before.before.before.before in

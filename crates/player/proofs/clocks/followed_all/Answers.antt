@@ -1,3 +1,4 @@
+-- The place is written where a value was accepted.
 use mathlib.Core.Path.{sym, ap, ◌∙◌}
 use mir.Facts.{to_z_pos, to_z-of_z}
 use mir.Syntax.{w64}
@@ -8,7 +9,6 @@ use Rattle.player.specs.ClockPlaces.{heard_at}
 use Rattle.player.proofs.ClockPlace.{all_over, not_all_over}
 use Rattle.player.proofs.clocks.followed_all.Goals as goal
 
--- The place is written where a value was accepted.
 pub returns-then-skipped-count : goal.returns-then-skipped-count
 returns-then-skipped-count c = let a = c.args in
     record { answer = to_z_pos w64 c.requires; place = sym (all_over a.count a.batch a.place.now c.if-skipped-count.true) }

@@ -1,3 +1,4 @@
+-- The test of the bits for 0 is that of the number.
 use mathlib.Core.Path.{sym, ap, ◌∙◌}
 use lib.Dec.{lit<}
 use mir.Facts.{to_z-of_z}
@@ -9,7 +10,6 @@ use Rattle.player.specs.Returned.{clock_from}
 use Rattle.player.proofs.ClockPlace.{not_zero}
 use Rattle.player.proofs.clocks.from_numbers.Goals as goal
 
--- The test of the bits for 0 is that of the number.
 pub returns-then-heard-eq0 : goal.returns-then-heard-eq0
 returns-then-heard-eq0 c = let s = c.before in
     sym (ap (λ heard. clock_from heard s.args.position) (key_is s.ranges.heard 0 (lit< tt) c.if-heard-eq0.true))

@@ -1,3 +1,4 @@
+-- Each case returns, and leaves in the place, what its outcome says; the least n fits by what is required.
 use mathlib.Core.Path.{refl, sym, ap}
 use mir.Facts.{to_z_pos}
 use mir.Syntax.{w64}
@@ -7,7 +8,6 @@ use Rattle.player.specs.Returned.{returned_done}
 use Rattle.player.proofs.Answered.{as_read, refusal_placed}
 use Rattle.player.proofs.give.claim.Goals as goal
 
--- Each case returns, and leaves in the place, what its outcome says; the least n fits by what is required.
 pub overflow_cast-least : goal.overflow_cast-least
 overflow_cast-least c =
     pos_fits (c.requires _ c.in-RefusedAt.n (ap claim_outcome c.in-RefusedAt.is))

@@ -1,10 +1,10 @@
+-- Each case returns, and leaves in the place, what its outcome says.
 use mathlib.Core.Path.{refl, sym, ap}
 use Rattle.labels.specs.Cues.{cue_outcome}
 use Rattle.player.specs.Returned.{cue_numbers}
 use Rattle.player.proofs.Answered.{as_read, cons_read, placed}
 use Rattle.player.proofs.give.cue.Goals as goal
 
--- Each case returns, and leaves in the place, what its outcome says.
 pub returns-in-Value : goal.returns-in-Value
 returns-in-Value c =
     let both = placed (ap cue_outcome (sym c.in-Value.is)) cue_numbers _ (refl, cons_read c.struct_told-1.given.0.1 (cons_read c.struct_told-1.given.1.0.1 refl)) in record { answer = both.0; place = both.1 }

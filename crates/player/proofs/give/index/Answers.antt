@@ -1,3 +1,4 @@
+-- Each case returns, and leaves in the place, what its outcome says; the count and an instant's place fit by what is required.
 use mathlib.Core.Path.{refl, sym, ap}
 use native.Mathlib.Omega.{arith}
 use mir.Facts.{to_z_pos}
@@ -8,7 +9,6 @@ use Rattle.player.specs.Returned.{returned_count}
 use Rattle.player.proofs.Answered.{as_read, refusal_placed}
 use Rattle.player.proofs.give.index.Goals as goal
 
--- Each case returns, and leaves in the place, what its outcome says; the count and an instant's place fit by what is required.
 pub overflow_cast-result : goal.overflow_cast-result
 overflow_cast-result c =
     let small = c.requires.count_fits c.in-Written.count (ap index_outcome c.in-Written.is) in

@@ -1,3 +1,4 @@
+-- A refusal's number is small, so the cast and the difference fit.
 use Prim.Native.Nat.{ℕ, ◌<◌, ◌^◌}
 use mathlib.Core.Path.{◌≡◌, ap, ◌∙◌}
 use native.Mathlib.Omega.{arith}
@@ -13,7 +14,6 @@ use Rattle.refusal.proofs.Bounds.{number_le}
 use Rattle.numbers.proofs.Machine.{pos_fits, sub_fits}
 use Rattle.player.proofs.give.negated.Goals as goal
 
--- A refusal's number is small, so the cast and the difference fit.
 module _ (why : Refusal) {n : ℕ} (e : n ≡ refusal_number why) where
   small : n < 2 ^ 61
   small = omega (arith, number_le why)

@@ -1,9 +1,9 @@
+-- Each case returns, and leaves in the place, what its outcome says.
 use mathlib.Core.Path.{refl, sym, ap}
 use Rattle.refusal.specs.Outcome.{number_outcome}
 use Rattle.player.proofs.Answered.{as_read, placed}
 use Rattle.player.proofs.give.number.Goals as goal
 
--- Each case returns, and leaves in the place, what its outcome says.
 pub returns-in-Value : goal.returns-in-Value
 returns-in-Value c =
     let s = c.before in

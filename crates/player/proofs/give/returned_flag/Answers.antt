@@ -1,10 +1,10 @@
+-- Each case returns what its outcome says.
 use mathlib.Core.Path.{sym, ap, ◌∙◌}
 use Rattle.calendar.specs.Answers.{flag_outcome}
 use Rattle.player.specs.Returned.{returned_flag}
 use Rattle.player.proofs.Answered.{as_read, flag_read}
 use Rattle.player.proofs.give.returned_flag.Goals as goal
 
--- Each case returns what its outcome says.
 pub returns-in-Value : goal.returns-in-Value
 returns-in-Value c =
     flag_read c.in-Value.flag ∙ ap returned_flag (ap flag_outcome (sym c.in-Value.is))

@@ -1,3 +1,4 @@
+-- Each case returns what its outcome says; the number that was found fits by what is required.
 use mathlib.Core.Path.{sym, ap, ◌∙◌}
 use native.Mathlib.Omega.{arith}
 use mir.Facts.{to_z-of_z, to_z_pos}
@@ -8,7 +9,6 @@ use Rattle.player.specs.Returned.{returned_found}
 use Rattle.player.proofs.Answered.{as_read}
 use Rattle.player.proofs.give.returned_found.Goals as goal
 
--- Each case returns what its outcome says; the number that was found fits by what is required.
 pub overflow_cast-result : goal.overflow_cast-result
 overflow_cast-result c =
     let small = c.requires c.in-At.n (ap search_outcome c.in-At.is) in

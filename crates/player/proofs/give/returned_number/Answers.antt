@@ -1,10 +1,10 @@
+-- Each case returns what its outcome says.
 use mathlib.Core.Path.{sym, ap, ◌∙◌}
 use Rattle.refusal.specs.Outcome.{number_outcome}
 use Rattle.player.specs.Returned.{returned}
 use Rattle.player.proofs.Answered.{as_read}
 use Rattle.player.proofs.give.returned_number.Goals as goal
 
--- Each case returns what its outcome says.
 pub returns-in-Value : goal.returns-in-Value
 returns-in-Value c =
     let same = ap number_outcome (sym c.in-Value.is) in

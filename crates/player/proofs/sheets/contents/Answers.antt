@@ -1,3 +1,4 @@
+-- Each case returns, and leaves in the place, what its outcome says; both numbers fit by what is required.
 use mathlib.Core.Path.{refl, sym, ap}
 use mir.Facts.{to_z_pos}
 use mir.Syntax.{w64}
@@ -7,7 +8,6 @@ use Rattle.player.specs.Returned.{returned_records, length_of_note}
 use Rattle.player.proofs.Answered.{as_read, returned_and_placed}
 use Rattle.player.proofs.sheets.contents.Goals as goal
 
--- Each case returns, and leaves in the place, what its outcome says; both numbers fit by what is required.
 pub overflow_cast-place : goal.overflow_cast-place
 overflow_cast-place c = pos_fits (c.requires c.in-Value.c (ap read_outcome c.in-Value.is)).1
 

@@ -1,3 +1,4 @@
+-- Each case returns, and leaves in the place, what its outcome says.
 use Prim.Native.Nat.{ℕ}
 use mathlib.Core.Path.{◌≡◌, refl, sym, ap}
 use mathlib.Core.List.{List, ◌∷◌}
@@ -10,7 +11,6 @@ use Rattle.player.specs.Returned.{record_numbers}
 use Rattle.player.proofs.Answered.{as_read, placed}
 use Rattle.player.proofs.sheets.numbers.Goals as goal
 
--- Each case returns, and leaves in the place, what its outcome says.
 -- a number of 32 bits, cast to an i64, in front of others
 cons_cast : {n : ℕ} {ns ms : List ℤ} → Fits w32 n → ns ≡ ms → to_z w64 n ∷ ns ≡ pos n ∷ ms
 cons_cast f e i = number_cast f i ∷ e i

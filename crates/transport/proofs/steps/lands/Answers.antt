@@ -1,10 +1,10 @@
+-- Below HALF no position stands, and above LAST_AHEAD none in the range.
 use mathlib.Core.Path.{sym, ap}
 use mathlib.Core.Bool.{not}
 use native.Mathlib.Omega.{arith}
 use Rattle.transport.proofs.Answered.{in_range_lem, too_far, below_zero}
 use Rattle.transport.proofs.steps.lands.Goals as goal
 
--- Below HALF no position stands, and above LAST_AHEAD none in the range.
 pub returns-then-ahead-lt-HALF : goal.returns-then-ahead-lt-HALF
 returns-then-ahead-lt-HALF c = ap not (sym (below_zero c.args.ahead (omega arith)))
 

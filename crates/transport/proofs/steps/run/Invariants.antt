@@ -1,3 +1,4 @@
+-- The batch from `i` on, at the position, is the batch from the start on; `last` is what the position leaves.
 use Prim.Native.Nat.{◌-◌, ◌%◌, ◌≤◌, ◌^◌}
 use mathlib.Core.Path.{◌≡◌}
 use lib.IntN.{pos}

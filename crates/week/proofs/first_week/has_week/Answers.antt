@@ -1,3 +1,4 @@
+-- Week 53 is compared with the next year; any other week is in 1..52 exactly if it is in 1..53.
 use Prim.Native.Nat.{ℕ, ◌+◌, ◌<◌}
 use mathlib.Core.Path.{◌≡◌, refl, sym, ap, ap₂, ◌∙◌}
 use mathlib.Core.Bool.{not, ◌||◌}
@@ -15,7 +16,6 @@ use Rattle.week.specs.Closed.{first_day, first_monday, weeks}
 use Rattle.week.proofs.Years.{by_weeks}
 use Rattle.week.proofs.first_week.has_week.Goals as goal
 
--- Week 53 is compared with the next year; any other week is in 1..52 exactly if it is in 1..53.
 last_week : (y : ℕ) → ltb (first_monday y + 367) (first_day (y + 1)) ≡ not (outside (pos 1) (pos (weeks y)) (pos 53))
 last_week y =
     by_weeks (λ k. ltb (first_monday y + 367) (first_day (y + 1)) ≡ not (outside (pos 1) (pos k) (pos 53))) y
