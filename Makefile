@@ -20,7 +20,7 @@ VERSION := $(subst $() ,.,$(strip $(shell sed -n 's/^.define OVENQUILL_VERSION_[
 
 all: $(LIB) $(CHECK_SHEET) $(EXAMPLES)
 
-# The archive: proved first, and only then built, for every x86-64; the kit's own choice is x86-64-v2.
+# The archive: proved first, and only then built. It and the program are for every x86-64; the kit's own choice is x86-64-v2.
 $(LIB): $(RATTLE)
 	cd crates/player && rt lib --cpu=x86-64
 	mkdir -p build/lib
@@ -28,7 +28,7 @@ $(LIB): $(RATTLE)
 
 # The program, proved and built after the archive: what both have is proved once, and never by two at a time.
 $(CHECK_SHEET): $(RATTLE) | $(LIB)
-	cd crates/check_sheet && rt run < /dev/null > /dev/null
+	cd crates/check_sheet && rt run --cpu=x86-64 < /dev/null > /dev/null
 	cp crates/check_sheet/out/check_sheet $@
 
 build/%: examples/%.c examples/read_line.h include/ovenquill.h $(LIB)
