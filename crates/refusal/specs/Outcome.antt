@@ -1,9 +1,12 @@
--- What a call hands back, in document 01's numbers, and what it leaves in what was lent. Each crate says for each of its answers
--- which outcome it is, and each contract is an equation between outcomes.
-use Rattle.std.specs.Prelude.{ℕ, ℤ}
+-- What a call hands back, in the numbers of the refusals, and what it leaves in what was lent. Each contract is an equation between
+-- outcomes.
+use Rattle.std.specs.Prelude.{ℕ}
+use Rattle.std.specs.declared.result.Result.{Result}
+use Rattle.std.specs.declared.result.Result.TheVariants.{Ok, Err}
 use Rattle.refusal.specs.Numbers.{refusal_number}
-use Rattle.refusal.specs.declared.NumberAnswer.{NumberAnswer}
-use Rattle.refusal.specs.declared.NumberAnswer.TheVariants as N
+use Rattle.refusal.specs.declared.Refusal.{Refusal}
+use Rattle.refusal.specs.declared.RefusalAt.{RefusalAt}
+use Rattle.refusal.specs.declared.RefusalAt.TheVariants.{Alone, At}
 
 -- the value of an accepted call; a refusal's number and nothing else; or a refusal's number with the place or the least n that it hands back
 pub data Outcome (A : Type 0) : Type 0 where
@@ -11,10 +14,16 @@ pub data Outcome (A : Type 0) : Type 0 where
   refused : ℕ → Outcome A
   refused_at : ℕ → ℕ → Outcome A
 
--- document 01's number and value for each case of an answer that is a number or a refusal
-abbrev pub number_outcome : NumberAnswer → Outcome ℤ
-number_outcome (N.Value n) = value n
-number_outcome (N.Refused r) = refused (refusal_number r)
+-- the outcome of an answer: its value, or the number of its refusal
+abbrev pub outcome : {A : Type 0} → Result A Refusal → Outcome A
+outcome (Ok a) = value a
+outcome (Err r) = refused (refusal_number r)
+
+-- and of one whose refusal may hand back a number
+abbrev pub outcome_at : {A : Type 0} → Result A (RefusalAt ℕ) → Outcome A
+outcome_at (Ok a) = value a
+outcome_at (Err (Alone r)) = refused (refusal_number r)
+outcome_at (Err (At r n)) = refused_at (refusal_number r) n
 
 -- a call, and then what `next` answers to its value; a refusal stays as it is
 abbrev pub and_then : {A B : Type 0} → Outcome A → (next : A → Outcome B) → Outcome B

@@ -1,15 +1,7 @@
 -- What the writers answer, and what the lent buffer holds then: document 01, "Both writers answer the number of bytes written, fill the
 -- front of the lent buffer and touch nothing behind their last byte", and "A refused call changes nothing lent".
 use Rattle.std.specs.Prelude.{ℕ, cond, List, ◌++◌, ltb, length, drop}
-use Rattle.refusal.specs.Numbers.{refusal_number}
 use Rattle.refusal.specs.Outcome.{Outcome, value, refused, and_then, map_value, after_call}
-use Rattle.refusal.specs.declared.WriteAnswer.{WriteAnswer}
-use Rattle.refusal.specs.declared.WriteAnswer.TheVariants as W
-
--- what each case of an answer hands back
-abbrev pub write_outcome : WriteAnswer → Outcome ℕ
-write_outcome (W.Written n) = value n
-write_outcome (W.Refused r) = refused (refusal_number r)
 
 -- the text that is written: 7 for a buffer shorter than it
 abbrev pub fitted : Outcome (List ℕ) → (buffer : List ℕ) → Outcome (List ℕ)
