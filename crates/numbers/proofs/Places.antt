@@ -1,14 +1,16 @@
 -- The first place of a list whose number lies outside a range, or not outside.
-use Prim.Native.Nat.{ℕ, zero, suc, ◌≤◌, ◌<◌}
-use mathlib.Core.Path.{◌≡◌, refl, sym, ◌∙◌}
+use Prim.Native.Nat.{ℕ, zero, suc, ◌+◌, ◌≤◌, ◌<◌}
+use mathlib.Core.Path.{◌≡◌, refl, subst}
 use mathlib.Core.Bool.{Bool, true, false, cond, not, beq}
 use mathlib.Core.List.{List, [], ◌∷◌}
-use native.Mathlib.Decide.{dec_lt}
+use Rattle.std.proofs.Common.{Some, None, ltb}
+use borrow.Author.Tests.{ltb-false}
 use native.Mathlib.Omega.{arith}
 use lib.IntN.{ℤ, pos}
 use lib.ListN.{length, get_or}
-use Rattle.numbers.specs.Range.{outside, first_place}
-use Rattle.numbers.proofs.Bools.{no_both, beq_true, beq_false}
+use Rattle.numbers.specs.Range.{outside, first_place, place_found}
+use Rattle.std.specs.List.{position_or_len}
+use Rattle.numbers.proofs.Bools.{beq_true, beq_false}
 
 -- what there is to say of it
 pub record FirstPlace (first last : ℤ) (t : Bool) (list : List ℤ) (place : ℕ) : Type 0 where
@@ -17,13 +19,6 @@ pub record FirstPlace (first last : ℤ) (t : Bool) (list : List ℤ) (place : �
   pub there : place < length list → outside first last (get_or list place (pos 0)) ≡ t
 
 module _ (first last : ℤ) (t : Bool) where
-  never : {G : Type 0} {a : Bool} → a ≡ t → a ≡ not t → G
-  never p q = go t (sym p ∙ q)
-    where
-      go : {G : Type 0} (t : Bool) → t ≡ not t → G
-      go true e = no_both true refl e
-      go false e = no_both false e refl
-
   module _ (z : ℤ) (zs : List ℤ) where
     here : beq (outside first last z) t ≡ true → FirstPlace first last t (z ∷ zs) 0
     here e = record { within = omega arith; before = λ k l. absurd (omega arith); there = λ l. beq_true (outside first last z) t e }
@@ -45,14 +40,30 @@ module _ (first last : ℤ) (t : Bool) where
       go true e f = here z zs e
       go false e f = later z zs e f
 
-  -- there is one only
-  pub only_place : (list : List ℤ) {a b : ℕ} → FirstPlace first last t list a → FirstPlace first last t list b → a ≡ b
-  only_place list {a} {b} f g = go (dec_lt a b) (dec_lt b a)
+  -- the place that was found, and where none was
+  pub some_found : (list : List ℤ) {place : ℕ} → Some place ≡ place_found first last t list → FirstPlace first last t list place
+  some_found list {place} e = go (ltb (first_place first last t list) (length list)) e (first_place_is list)
     where
-      less : {a b : ℕ} → FirstPlace first last t list a → FirstPlace first last t list b → a < b → {G : Type 0} → G
-      less {a} f g l = never (f.there (omega (arith, g.within))) (g.before a l)
+      go : (s : Bool) {n : ℕ} → Some place ≡ cond s (Some n) None → FirstPlace first last t list n → FirstPlace first last t list place
+      go true {n} e f = let same : n ≡ place = cc in subst (FirstPlace first last t list) same f
+      go false e f = absurd (cc)
 
-      go : Dec (a < b) → Dec (b < a) → a ≡ b
-      go (yes l) d = less f g l
-      go (no k) (yes l) = less g f l
-      go (no k) (no l) = omega arith
+  pub none_found : (list : List ℤ) → None ≡ place_found first last t list → FirstPlace first last t list (length list)
+  none_found list e = go (ltb (first_place first last t list) (length list)) refl e (first_place_is list)
+    where
+      go : (s : Bool) {n : ℕ} → ltb n (length list) ≡ s → None ≡ cond s (Some n) None → FirstPlace first last t list n →
+          FirstPlace first last t list (length list)
+      go true h e f = absurd (cc)
+      go false {n} h e f = let same : n ≡ length list = omega (arith, ltb-false n (length list) h, f.within) in
+          subst (FirstPlace first last t list) same f
+
+-- the place that `position` looks for
+pub position_is : (first last : ℤ) (t : Bool) (list : List ℤ) →
+    position_or_len (λ z. beq (outside first last z) t) list ≡ first_place first last t list
+unfolding first_place
+position_is first last t [] = refl
+position_is first last t (z ∷ zs) = go (beq (outside first last z) t) (position_is first last t zs)
+  where
+    go : (s : Bool) {a b : ℕ} → a ≡ b → cond (not s) (1 + a) 0 ≡ cond s 0 (suc b)
+    go true e = refl
+    go false e = omega arith

@@ -1,5 +1,5 @@
 -- Ranges of whole numbers, both ends included.
-use Rattle.std.specs.Prelude.{ℕ, suc, ◌≤◌, ◌≡◌, Bool, false, cond, ◌||◌, List, [], ◌∷◌, eqb, ℤ, pos, negsuc, nat_abs, ◌-ℤ◌}
+use Rattle.std.specs.Prelude.{ℕ, suc, ◌≤◌, ◌≡◌, Bool, false, cond, ◌||◌, Option, Some, None, List, [], ◌∷◌, eqb, ltb, length, ℤ, pos, negsuc, nat_abs, ◌-ℤ◌}
 use Rattle.std.specs.Bool.{beq}
 use Rattle.std.specs.Int.Signed.{lt_z}
 
@@ -22,6 +22,10 @@ eq_z (negsuc a) (negsuc b) = eqb a b
 unfoldable pub first_place : (first last : ℤ) (t : Bool) → List ℤ → ℕ
 first_place first last t [] = 0
 first_place first last t (z ∷ zs) = cond (beq (outside first last z) t) 0 (suc (first_place first last t zs))
+
+-- the same place, where there is one
+abbrev pub place_found : (first last : ℤ) (t : Bool) → List ℤ → Option ℕ
+place_found first last t list = let place = first_place first last t list in cond (ltb place (length list)) (Some place) None
 
 -- a natural number in first..last
 pub record Within (first last : ℕ) (z : ℤ) : Type 0 where

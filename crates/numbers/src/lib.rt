@@ -2,11 +2,11 @@
 // the laws by which a tested i64 becomes a natural number and comes back (proofs/).
 //
 //     outside(first, last, x)                  whether x lies outside first..last, both ends included
-//     first_place(first, last, wanted, list)   the first place whose number lies outside, or not, or the length
+//     first_place(first, last, wanted, list)   the first place whose number lies outside, or not, if there is one
 
 #![tactic(auto)]
 
-ghost use Rattle.std.specs.Prelude.{◌≡◌, ◌≤◌, length};
+ghost use Rattle.std.specs.Prelude.{◌≡◌, ◌<◌, length, IfSome};
 ghost use Rattle.numbers.specs.Range as range;
 
 // Whether x lies outside first..last.
@@ -16,16 +16,10 @@ pub fn outside(first: i64, last: i64, x: i64) -> bool
     x < first || x > last
 }
 
-// The first place of a list whose number lies outside first..last, or not outside, as `wanted` says; the length where there is none.
-pub fn first_place(first: i64, last: i64, wanted: bool, list: &[i64]) -> usize
-    ensures { (result ≡ range.first_place first last wanted list.now) × (result ≤ length list.now) }
+// The first place of a list whose number lies outside first..last, or not outside, as `wanted` says.
+pub fn first_place(first: i64, last: i64, wanted: bool, list: &[i64]) -> Option<usize>
+    ensures found { result ≡ range.place_found first last wanted list.now }
+    ensures within { IfSome result (λ place. place < length list.now) }
 {
-    let mut place = 0;
-    while place < list.len() {
-        if outside(first, last, list[place]) == wanted {
-            return place;
-        }
-        place += 1;
-    }
-    place
+    list.iter().position(|&x| outside(first, last, x) == wanted)
 }
