@@ -2,13 +2,14 @@
 use Prim.Native.Nat.{ℕ, suc, ◌+◌, ◌-◌, ◌≤◌, ◌<◌}
 use mathlib.Core.Path.{◌≡◌, refl, sym, ap, ap₂, ◌∙◌, subst}
 use mathlib.Core.Bool.{Bool, true, false}
-use mathlib.Core.List.{List, [], ◌∷◌, ◌++◌, append_assoc}
+use mathlib.Core.List.{List, [], ◌∷◌, ◌++◌, append_assoc, append-nil}
 use native.Mathlib.Nat.{zero-add}
 use native.Mathlib.Omega.{arith}
 use borrow.Author.Tests.{leb-true, leb-false, le-leb, lt-leb}
 use lib.Dec.{leb}
-use lib.ListN.{length, set, take, drop, length-append}
+use lib.ListN.{length, set, take, drop, length-append, drop_of_length-le}
 use lib.Seq.{set-set, set_comm, sets, length-sets, sets-eq, drop-drop, take-add, take-length, length-take-le, take-append_seam, drop-append-add}
+use borrow.Rule.Slice.PartMut.{put_mid}
 use Rattle.text.specs.Words.{part_of}
 use Rattle.text.specs.Filled.{filled, Stored, Begins, has_room, place_behind, placed}
 use Rattle.text.proofs.Words.{part_length, part_two}
@@ -37,15 +38,6 @@ pub filled_then :
     {k : ℕ} (at : ℕ) (a b before : List ℕ) {between after : List ℕ} → between ≡ filled at a before → at + length a ≡ k → after ≡ filled k b between →
     after ≡ filled at (a ++ b) before
 filled_then {k} at a b before e h f = f ∙ ap (filled k b) e ∙ filled_more at a b before h
-
--- a part of a text behind the part before it
-pub filled_part :
-    (text : List ℕ) (at count more : ℕ) {k n : ℕ} (before : List ℕ) {between after : List ℕ} → between ≡ filled at (part_of at count text) before →
-    at + count ≡ k → k ≤ length text → count + more ≡ n → after ≡ filled k (part_of k more text) between → after ≡ filled at (part_of at n text) before
-filled_part text at count more {k} before {between} e h l n f =
-    let f' = f ∙ ap (λ k'. filled k (part_of k' more text) between) (sym h) in
-    filled_then at (part_of at count text) (part_of (at + count) more text) before e (ap (λ m. at + m) (part_length at count text (omega arith)) ∙ h) f'
-    ∙ ap (λ l. filled at l before) (sym (part_two at count more text) ∙ ap (λ n. part_of at n text) n)
 
 -- a byte behind a piece
 pub filled_byte : {k : ℕ} (at : ℕ) (a : List ℕ) (byte : ℕ) (buffer : List ℕ) → at + length a ≡ k → set (filled at a buffer) k byte ≡ filled at (a ++ byte ∷ []) buffer
@@ -161,9 +153,31 @@ filled_front text buffer h =
     let l : 0 + length text ≤ length buffer = omega arith in
     sets-eq text buffer 0 l ∙ ap (λ k. text ++ drop k buffer) (zero-add (length text))
 
--- what was stored at the front, read again
-pub filled_front_read : (text before : List ℕ) {n : ℕ} {after : List ℕ} → length text ≡ n → n ≤ length before → after ≡ filled 0 text before → take n after ≡ text
-filled_front_read text before e h f = ap₂ take (sym e) (f ∙ filled_front text before (omega arith)) ∙ take-append_seam text (drop (length text) before)
+-- a text as long as the buffer
+pub filled_whole : (text buffer : List ℕ) → length text ≡ length buffer → filled 0 text buffer ≡ text
+filled_whole text buffer e =
+    filled_front text buffer (omega (arith, e)) ∙ ap (λ l. text ++ l) (drop_of_length-le buffer (omega (arith, e))) ∙ append-nil text
+
+-- the last part of a text that is as long as the buffer, over the end of what is before it
+pub last_part_whole :
+    (text : List ℕ) (k size : ℕ) (before : List ℕ) {between after : List ℕ} → length text ≡ length before →
+    size ≤ length text → length text - size ≤ k → k ≤ length text →
+    between ≡ filled 0 (take k text) before → after ≡ filled (length text - size) (part_of (length text - size) size text) between →
+    after ≡ text
+last_part_whole text k size before {between} same most low high e f =
+    let last = length text - size in
+    filled_last_part 0 text k size before most low high e (f ∙ ap (λ n. filled n (part_of last size text) between) (sym (zero-add last)))
+    ∙ filled_whole text before same
+
+-- a text stored through a slice of the buffer, from byte `at` up to `end`
+pub filled_slice :
+    (at : ℕ) (text buffer : List ℕ) {end : ℕ} {slice : List ℕ} → end ≡ at + length text → end ≤ length buffer → slice ≡ text →
+    put_mid at (end - at) buffer slice ≡ filled at text buffer
+unfolding filled
+filled_slice at text buffer {end} e h f =
+    let k : at + (end - at) ≡ at + length text = omega (arith, e) in
+    let behind : drop (end - at) (drop at buffer) ≡ drop (at + length text) buffer = drop-drop (end - at) at buffer ∙ ap (λ n. drop n buffer) k in
+    ap (λ l. take at buffer ++ l) (ap₂ ◌++◌ f behind) ∙ sym (sets-eq text buffer at (omega (arith, e)) ∙ append_assoc (take at buffer) text _)
 
 -- a buffer begins with what was stored at its front, and is as before behind that
 pub filled_begins :

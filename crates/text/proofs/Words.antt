@@ -1,12 +1,11 @@
 -- Bytes as one number, and its bytes again.
-use Prim.Native.Nat.{ℕ, zero, suc, ◌+◌, ◌-◌, ◌*◌, ◌/◌, ◌%◌, ◌^◌, ◌≤◌, ◌<◌}
+use Prim.Native.Nat.{ℕ, zero, suc, ◌+◌, ◌*◌, ◌/◌, ◌%◌, ◌^◌, ◌≤◌, ◌<◌}
 use mathlib.Core.Path.{◌≡◌, refl, sym, ap, ap₂, ◌∙◌, subst}
 use mathlib.Core.List.{List, [], ◌∷◌, ◌++◌, append_assoc, append-nil}
-use native.Mathlib.Nat.{zero-div, pow-zero, pow-suc, pow-le-pow_right}
+use native.Mathlib.Nat.{zero-div, pow-zero, pow-suc}
 use native.Mathlib.Omega.{arith}
-use lib.Dec.{lit<}
 use lib.ListN.{length, get_or, take, drop, replicate, length-append, length-drop}
-use lib.Seq.{take-suc, take-length, take-add, drop-cons, drop-drop, drop-length, length-take-le, get_or-take, get_or-drop}
+use lib.Seq.{take-suc, take-length, take-add, drop-cons, drop-drop, length-take-le, get_or-take, get_or-drop}
 use lib.Pow.{shr-shr}
 use mir.Syntax.{w8}
 use mir.Val.{Fits}
@@ -149,41 +148,3 @@ word_bytes zero n h = omega (arith, rw pow-zero at h)
 word_bytes (suc count) n h =
     let l : n / 256 < 256 ^ count = omega (arith, rw pow-suc at h) in
     ap word (first_byte count n) ∙ omega (arith, word_bytes count (n / 256) l)
-
--- ---- a list of at most eight bytes made a number from its end
-
--- n is the number of the bytes from i on
-pub record Made (l : List ℕ) (count n i : ℕ) : Type 0 where
-  pub within : i ≤ count
-  pub is_word : n ≡ word (drop i l)
-  pub below : n < 256 ^ (count - i)
-
-pub none_made : (l : List ℕ) {count : ℕ} → length l ≡ count → Made l count 0 count
-none_made l {count} e =
-    let z : count - count ≡ 0 = omega arith in
-    record {
-      within = omega arith;
-      is_word = ap word (sym (ap (λ i. drop i l) (sym e) ∙ drop-length l));
-      below = omega (arith, ap (λ k. 256 ^ k) z ∙ pow-zero 256);
-    }
-
-pub all_made : {l : List ℕ} {count n i : ℕ} → Made l count n i → i ≤ 0 → n ≡ word l
-all_made {l} {i = i} m h = let z : i ≡ 0 = omega arith in m.is_word ∙ ap (λ i. word (drop i l)) z
-
-pub room : {l : List ℕ} {count n i : ℕ} → Made l count n i → 1 ≤ i → count ≤ 8 → n < 72057594037927936
-room {count = count} {i = i} m low h =
-    let k : count - i ≤ 7 = omega arith in
-    omega (arith, m.below, pow-le-pow_right {n = 256} (lit< tt) k)
-
-pub more_made :
-    {l : List ℕ} {count n i b : ℕ} → Made l count n i → length l ≡ count → 1 ≤ i → b ≡ get_or l (i - 1) 0 → b ≤ 255 → Made l count (n * 256 + b) (i - 1)
-more_made {l} {count} {i = i} m size low e h =
-    let j : i - 1 < length l = omega (arith, m.within) in
-    let s : suc (i - 1) ≡ i = omega arith in
-    let d : drop (i - 1) l ≡ get_or l (i - 1) 0 ∷ drop i l = drop-cons l (i - 1) 0 j ∙ ap (λ j. get_or l (i - 1) 0 ∷ drop j l) s in
-    let p : count - (i - 1) ≡ suc (count - i) = omega (arith, m.within) in
-    record {
-      within = omega (arith, m.within);
-      is_word = ap₂ (λ n b. n * 256 + b) m.is_word e ∙ sym (ap word d);
-      below = omega (arith, m.below, ap (λ j. 256 ^ j) p ∙ pow-suc 256 (count - i));
-    }

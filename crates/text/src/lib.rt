@@ -23,6 +23,8 @@ fn has_room(length: usize, at: usize, count: usize) -> bool
     at <= length && count <= length - at
 }
 
+// Where there is no room it answers `at` and no error, since a public call that could not fail still cannot.
+#[tactic(auto, using(crate::proofs::Filled::filled_slice))]
 pub fn put(out: &mut [u8], at: usize, piece: &[u8]) -> usize
     ensures place { result ≡ place_behind at piece.now out.old }
     ensures buffer { out.new ≡ placed at piece.now out.old }
@@ -31,10 +33,11 @@ pub fn put(out: &mut [u8], at: usize, piece: &[u8]) -> usize
     if !has_room(out.len(), at, count) {
         return at;
     }
-    store(out, at, piece);
+    store(&mut out[at..at + count], piece);
     at + count
 }
 
+#[tactic(auto, using(crate::proofs::Decimal::decimal_digits, crate::proofs::Filled::filled_slice))]
 pub fn put_number(out: &mut [u8], at: usize, n: u64) -> usize
     ensures place { result ≡ place_behind at (decimal n) out.old }
     ensures buffer { out.new ≡ placed at (decimal n) out.old }
@@ -43,7 +46,7 @@ pub fn put_number(out: &mut [u8], at: usize, n: u64) -> usize
     if !has_room(out.len(), at, count) {
         return at;
     }
-    store_digits(out, at, n, count);
+    store_digits(&mut out[at..at + count], n);
     at + count
 }
 
@@ -51,101 +54,94 @@ pub fn put_number(out: &mut [u8], at: usize, n: u64) -> usize
 pub fn number_length(n: u64) -> usize
     ensures { (result ≡ length (decimal n)) × (result ≤ 20) }
 {
-    let mut count = 1;
-    let mut power: u64 = 10;
-    while power <= n {
-        count += 1;
-        if count == 20 {
-            return 20;
-        }
-        power *= 10;
-    }
-    count
+    n.checked_ilog10().map_or(1, |power| power as usize + 1)
 }
 
 // The number of four bytes, the lowest first.
 pub fn four_bytes(a: u8, b: u8, c: u8, d: u8) -> u32
     ensures { result ≡ word (a ∷ b ∷ c ∷ d ∷ []) }
 {
-    a as u32 + b as u32 * 0x100 + c as u32 * 0x1_0000 + d as u32 * 0x100_0000
+    u32::from_le_bytes([a, b, c, d])
 }
 
-// Stores a piece from byte `at` on, by blocks of some fixed sizes, which the compiler makes single steps of. The last block may go over
-// bytes of the one before.
-fn store(out: &mut [u8], at: usize, piece: &[u8])
-    requires { at + length piece.now ≤ length out.old }
-    ensures { out.new ≡ filled at piece.now out.old }
+// Stores a piece by blocks of some fixed sizes, which the compiler makes single steps of. The last block may go over bytes of the one
+// before.
+fn store(to: &mut [u8], piece: &[u8])
+    requires { length piece.now ≡ length to.old }
+    ensures { to.new ≡ piece.now }
 {
     let count = piece.len();
     if count >= BLOCK {
-        store_blocks(out, at, piece);
+        store_blocks(to, piece);
     } else if count >= 16 {
-        store_ends(out, at, piece, 16);
+        store_ends(to, piece, 16);
     } else if count >= 8 {
-        store_ends(out, at, piece, 8);
+        store_ends(to, piece, 8);
     } else if count >= 4 {
-        store_ends(out, at, piece, 4);
+        store_ends(to, piece, 4);
     } else {
-        store_part(out, at, piece, 0, count);
+        store_part(to, piece);
     }
 }
 
 // A piece of at least one block, by whole blocks; the last may go over bytes of the one before.
-fn store_blocks(out: &mut [u8], at: usize, piece: &[u8])
-    requires { (32 ≤ length piece.now) × (at + length piece.now ≤ length out.old) }
-    ensures { out.new ≡ filled at piece.now out.old }
+#[tactic(auto, using(crate::proofs::Filled::filled_nothing))]
+fn store_blocks(to: &mut [u8], piece: &[u8])
+    requires long { BLOCK ≤ length piece.now }
+    requires same { length piece.now ≡ length to.old }
+    ensures { to.new ≡ piece.now }
 {
     let last = piece.len() - BLOCK;
-    let mut i = 0;
-    while i < last {
-        store_block(out, at, piece, i, BLOCK);
-        i += BLOCK;
+    for i in (0..last).step_by(BLOCK) {
+        store_block(to, piece, i, BLOCK);
     }
-    store_block(out, at, piece, last, BLOCK);
+    store_block(to, piece, last, BLOCK);
 }
 
 // A piece of one to two blocks of some size: its first block and its last, which may overlap.
-fn store_ends(out: &mut [u8], at: usize, piece: &[u8], size: usize)
-    requires { ((size ≤ 32) × ((size ≤ length piece.now) × (length piece.now ≤ size + size))) × (at + length piece.now ≤ length out.old) }
-    ensures { out.new ≡ filled at piece.now out.old }
+fn store_ends(to: &mut [u8], piece: &[u8], size: usize)
+    requires block { size ≤ BLOCK }
+    requires ends { (size ≤ length piece.now) × (length piece.now ≤ size + size) }
+    requires same { length piece.now ≡ length to.old }
+    ensures { to.new ≡ piece.now }
 {
-    store_block(out, at, piece, 0, size);
-    store_block(out, at, piece, piece.len() - size, size);
+    store_block(to, piece, 0, size);
+    store_block(to, piece, piece.len() - size, size);
 }
 
-// The block of a piece from its byte `from` on, in a buffer that is to have the piece from byte `at` on. It is read whole before it is
-// stored, so that the compiler can make one load and one store of it.
-fn store_block(out: &mut [u8], at: usize, piece: &[u8], from: usize, size: usize)
-    requires { ((size ≤ 32) × (from + size ≤ length piece.now)) × (at + from + size ≤ length out.old) }
-    ensures { out.new ≡ filled (at + from) (part_of from size piece.now) out.old }
+// The block of a piece from its byte `from` on. It is read whole before it is stored, so that the compiler can make one load and one
+// store of it.
+fn store_block(to: &mut [u8], piece: &[u8], from: usize, size: usize)
+    requires block { size ≤ BLOCK }
+    requires within { from + size ≤ length piece.now }
+    requires same { length piece.now ≡ length to.old }
+    ensures { to.new ≡ filled from (part_of from size piece.now) to.old }
 {
     let mut block: [u8; BLOCK] = [0; BLOCK];
-    store_part(&mut block, 0, piece, from, size);
-    store_part(out, at + from, &block, 0, size);
+    store_part(&mut block[..size], &piece[from..from + size]);
+    store_part(&mut to[from..from + size], &block[..size]);
 }
 
-// `count` bytes of a piece from its byte `from` on.
-fn store_part(out: &mut [u8], at: usize, piece: &[u8], from: usize, count: usize)
-    requires { (from + count ≤ length piece.now) × (at + count ≤ length out.old) }
-    ensures { out.new ≡ filled at (part_of from count piece.now) out.old }
+// No `copy_from_slice`, which may become a call of `memcpy`: the archive calls no function outside itself but `memset`. By an index, since
+// a proof knows no byte that is written through `to.iter_mut().zip(piece)`.
+fn store_part(to: &mut [u8], piece: &[u8])
+    requires { length piece.now ≡ length to.old }
+    ensures { to.new ≡ piece.now }
 {
-    let mut i = 0;
-    while i < count {
-        out[at + i] = piece[from + i];
-        i += 1;
+    for i in 0..piece.len() {
+        to[i] = piece[i];
     }
 }
 
-// The last `count` digits of a number, the last of them first.
-fn store_digits(out: &mut [u8], at: usize, n: u64, count: usize)
-    requires { at + count ≤ length out.old }
-    ensures { out.new ≡ filled at (digits n count) out.old }
+// The last digits of a number, as many as there are bytes, the last of them first. By an index, since a proof knows no byte that is
+// written through `to.iter_mut().rev()`.
+#[tactic(auto, using(crate::proofs::Filled::filled_nothing))]
+fn store_digits(to: &mut [u8], n: u64)
+    ensures { to.new ≡ digits n (length to.old) }
 {
     let mut rest = n;
-    let mut i = count;
-    while i > 0 {
-        i -= 1;
-        out[at + i] = (48 + rest % 10) as u8;
+    for i in (0..to.len()).rev() {
+        to[i] = (48 + rest % 10) as u8;
         rest /= 10;
     }
 }

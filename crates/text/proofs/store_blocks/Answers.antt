@@ -1,41 +1,36 @@
-use Prim.Native.Nat.{◌+◌}
-use mathlib.Core.Path.{refl, ap, ◌∙◌}
-use native.Mathlib.Omega.{arith}
+use Prim.Native.Nat.{ℕ, ◌+◌, ◌≤◌}
+use mathlib.Core.Path.{◌≡◌, refl, sym, ap, ◌∙◌}
+use mathlib.Core.List.{List}
 use lib.ListN.{length, take}
-use Rattle.text.proofs.Filled.{filled_length, filled_nothing, filled_front_part, filled_last_part}
+use Rattle.text.specs.Words.{part_of}
+use Rattle.text.specs.Filled.{filled}
+use native.Mathlib.Nat.{zero-add}
+use native.Mathlib.Omega.{arith}
+use Rattle.text.proofs.Filled.{filled_front_part, last_part_whole}
 use Rattle.text.proofs.store_blocks.Goals as goal
+use Rattle.text.proofs.store_blocks.Goals.{else-loop-i-test, then-loop-i-test+else-last-i-gt32}
 
-pub overflow_sub-last : goal.overflow_sub-last
-overflow_sub-last c = omega arith
-
-pub loop-i-init : goal.loop-i-init
-loop-i-init c = let a = c.args in (omega arith, (refl, filled_nothing a.at a.out.now))
-
-pub store_block-requires : goal.store_block-requires
-store_block-requires c = (omega arith, omega arith)
-
-pub overflow_add-i : goal.overflow_add-i
-overflow_add-i c = omega arith
-
-pub loop-i-smaller : goal.loop-i-smaller
-loop-i-smaller c = omega arith
+-- what is stored after one more block
+one_more :
+    (piece : List ℕ) (i : ℕ) (before : List ℕ) {between after : List ℕ} → i + 32 ≤ length piece → between ≡ filled 0 (take i piece) before →
+    after ≡ filled i (part_of i 32 piece) between → after ≡ filled 0 (take (i + 32) piece) before
+one_more piece i before {between} h e f =
+    filled_front_part 0 piece i i 32 before (omega arith) (omega arith) refl h e (f ∙ ap (λ k. filled k (part_of i 32 piece) between) (sym (zero-add i)))
 
 pub loop-i-preserved : goal.loop-i-preserved
 loop-i-preserved c =
     let a = c.args in
     let l = c.loop-i in
-    let piece = a.piece.now in
-    let e = filled_front_part a.at piece l.i l.i 32 a.out.now (omega arith) (omega arith) refl (omega arith) l.invariant.1.1 c.store_block.ensures in
-    (omega arith, (ap length e ∙ filled_length a.at (take (l.i + 32) piece) a.out.now, e))
-
-pub store_block-requires-2 : goal.store_block-requires-2
-store_block-requires-2 c = (omega arith, omega arith)
-
-pub shape_of-out : goal.shape_of-out
-shape_of-out c = omega arith
+    (omega arith, one_more a.piece.now l.i a.to.now (omega arith) l.invariant.1 c.store_block.ensures)
 
 pub returns : goal.returns
 returns c =
     let a = c.args in
     let l = c.loop-i in
-    filled_last_part a.at a.piece.now l.i 32 a.out.now (omega arith) (omega arith) (omega arith) l.invariant.1.1 c.store_block-2.ensures
+    let piece = a.piece.now in
+    elim c.loop-i-test.branch [
+      | else-loop-i-test w ↦ last_part_whole piece l.i 32 a.to.now c.requires.same (omega arith) (omega arith) (omega arith) (w.to-is ∙ l.invariant.1) c.store_block-2.ensures
+      | then-loop-i-test+else-last-i-gt32 w ↦ last_part_whole piece (l.i + 32) 32 a.to.now c.requires.same (omega arith) (omega arith) (omega arith)
+          (w.to-is ∙ one_more piece l.i a.to.now (omega arith) l.invariant.1 w.store_block.ensures)
+          c.store_block-2.ensures
+    ]
