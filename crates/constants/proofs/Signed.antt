@@ -1,12 +1,15 @@
 -- Constants that were tested, as natural numbers.
 use mathlib.Core.Path.{◌≡◌, refl}
-use mathlib.Core.Bool.{false, ◌||◌}
-use lib.IntN.{ℤ, pos, nat_abs}
-use Rattle.numbers.specs.Range.{outside, Within}
+use mathlib.Core.Bool.{Bool, true, false, ◌||◌}
+use lib.IntN.{ℤ, pos}
+use Rattle.numbers.specs.Range.{outside}
 use Rattle.numbers.proofs.Between.{natural_within}
 use Rattle.numbers.proofs.Bools.{or_no}
 use Rattle.constants.specs.Limits.{first_a, last_a, last_b, first_d, last_d, last_m, last_c, last_k, last_t, outside_limits, AllWithin}
-use Rattle.constants.specs.Allowed.{Passed, constants_of}
+
+or_true : (x : Bool) → (x || true) ≡ true
+or_true true = refl
+or_true false = refl
 
 pub allowed_within : (a b d m c k t : ℤ) → outside_limits a b d m c k t ≡ false → AllWithin a b d m c k t
 unfolding outside_limits
@@ -27,31 +30,39 @@ allowed_within a b d m c k t h =
       t_in = natural_within 0 (pos last_t) t to-k.1;
     }
 
-module _ (a b d m c k t end last : ℤ) (h : (outside_limits a b d m c k t || outside (pos 0) last end) ≡ false) where
-  pub constants_in : AllWithin a b d m c k t
-  constants_in = allowed_within a b d m c k t (or_no (outside_limits a b d m c k t) (outside (pos 0) last end) h).0
+-- one of the constants lies outside its limits, or none does
+module _ (a b d m c k t : ℤ) where
+  pub a_outside : outside (pos first_a) (pos last_a) a ≡ true → outside_limits a b d m c k t ≡ true
+  unfolding outside_limits
+  a_outside h = rw h
 
-  pub end_in : Within 0 (nat_abs last) end
-  end_in = natural_within 0 last end (or_no (outside_limits a b d m c k t) (outside (pos 0) last end) h).1
+  pub b_outside : outside (pos 0) (pos last_b) b ≡ true → outside_limits a b d m c k t ≡ true
+  unfolding outside_limits
+  b_outside h = rw (h, or_true)
 
-  pub all_passed : Passed a b d m c k t end last (constants_of a b d m c k t) (nat_abs end)
-  all_passed =
-      let i = constants_in in
-      record {
-        inside = h;
-        q_is = refl;
-        limits_kept =
-            record {
-              a_lo = i.a_in.low;
-              a_hi = i.a_in.high;
-              b_hi = i.b_in.high;
-              d_lo = i.d_in.low;
-              d_hi = i.d_in.high;
-              m_hi = i.m_in.high;
-              c_hi = i.c_in.high;
-              k_hi = i.k_in.high;
-              t_hi = i.t_in.high;
-            };
-        end_is = refl;
-        end_le = end_in.high;
-      }
+  pub d_outside : outside (pos first_d) (pos last_d) d ≡ true → outside_limits a b d m c k t ≡ true
+  unfolding outside_limits
+  d_outside h = rw (h, or_true)
+
+  pub m_outside : outside (pos 0) (pos last_m) m ≡ true → outside_limits a b d m c k t ≡ true
+  unfolding outside_limits
+  m_outside h = rw (h, or_true)
+
+  pub c_outside : outside (pos 0) (pos last_c) c ≡ true → outside_limits a b d m c k t ≡ true
+  unfolding outside_limits
+  c_outside h = rw (h, or_true)
+
+  pub k_outside : outside (pos 0) (pos last_k) k ≡ true → outside_limits a b d m c k t ≡ true
+  unfolding outside_limits
+  k_outside h = rw (h, or_true)
+
+  pub t_outside : outside (pos 0) (pos last_t) t ≡ true → outside_limits a b d m c k t ≡ true
+  unfolding outside_limits
+  t_outside h = rw (h, or_true)
+
+  pub none_outside :
+      outside (pos first_a) (pos last_a) a ≡ false → outside (pos 0) (pos last_b) b ≡ false → outside (pos first_d) (pos last_d) d ≡ false →
+      outside (pos 0) (pos last_m) m ≡ false → outside (pos 0) (pos last_c) c ≡ false → outside (pos 0) (pos last_k) k ≡ false →
+      outside (pos 0) (pos last_t) t ≡ false → outside_limits a b d m c k t ≡ false
+  unfolding outside_limits
+  none_outside a_in b_in d_in m_in c_in k_in t_in = rw (a_in, b_in, d_in, m_in, c_in, k_in, t_in)

@@ -41,9 +41,6 @@ module _ {end width rise start slope height lead : ℕ} (sizes : StairsSizes end
       first_zero : height * stair width rise start' 0 ≡ 0
       first_zero = omega (arith, ap (λ (z : ℕ). height * z) (stair_zero width rise start' (omega (arith, sizes.wide))))
 
-  pub stairs_up : lead' ≡ 0 → LeastValue (stairs_gap width rise start slope height lead) end 0
-  stairs_up z = record { taken = (end - 1, omega (arith, sizes.some), omega arith); least = λ x lt. omega arith }
-
   pub turned_sizes : LineSizes end width rise start' slope height lead'
   turned_sizes =
       record {
@@ -68,13 +65,10 @@ module _ {end width rise start slope height lead : ℕ} (sizes : LineSizes end w
       let more : 1 ≤ end - 1 = omega (arith, sizes.some) in
       omega (arith, sizes.stairs_hi, ap (λ (z : ℕ). height * z) (stair_slope width rise start (end - 1) wide), mul-le-mul_left (height * (rise / width)) more)
 
-  pub part_hi : rise % width * (end - 1) + start ≤ 2 ^ 61
-  part_hi = omega (arith, sizes.width_hi, sizes.start_lt, mul-le-mul_right (end - 1) (mod-le rise width))
-
   pub steps_hi : lead + height * stair width (rise % width) start (end - 1) ≤ 2 ^ 61
   steps_hi = omega (arith, sizes.stairs_hi, ap (λ (z : ℕ). height * z) (stair_slope width rise start (end - 1) wide))
 
-  pub rest_hi : (slope - height * (rise / width)) * (end - 1) ≤ 2 ^ 61
+  rest_hi : (slope - height * (rise / width)) * (end - 1) ≤ 2 ^ 61
   rest_hi =
       let le : slope - height * (rise / width) ≤ slope = omega arith in
       omega (arith, sizes.line_hi, mul-le-mul_right (end - 1) le)

@@ -1,11 +1,10 @@
 -- What the two calls answer, in document 01's numbers: "Constants on trial" and "The numbered refusals".
-use Rattle.std.specs.Prelude.{ℕ, ℤ, nat_abs, Bool, true, false, cond, ◌||◌}
+use Rattle.std.specs.Prelude.{ℕ, ℤ, nat_abs, Bool, true, false, cond, ◌||◌, Option, Some, None, Result, Ok, Err}
 use Rattle.refusal.specs.Outcome.{Outcome, value, refused, refused_at}
 use Rattle.refusal.specs.Numbers.{refusal_number}
-use Rattle.constants.specs.declared.SearchAnswer.{SearchAnswer}
-use Rattle.constants.specs.declared.SearchAnswer.TheVariants as search
-use Rattle.constants.specs.declared.ClaimAnswer.{ClaimAnswer}
-use Rattle.constants.specs.declared.ClaimAnswer.TheVariants as claim
+use Rattle.refusal.specs.declared.Refusal.{Refusal}
+use Rattle.refusal.specs.declared.RefusalAt.{RefusalAt}
+use Rattle.refusal.specs.declared.RefusalAt.TheVariants.{Alone, At}
 use Rattle.constants.specs.Difference.{exact_quotient, device_quotient, differs}
 use Rattle.constants.specs.Least.{Found, at, none, least_below}
 use Rattle.constants.specs.Limits.{outside_limits, end_outside, bound_outside}
@@ -46,13 +45,13 @@ bound_answer a b d m c k t bound =
     (least_below (difference a b d m c k t) (nat_abs bound))
     (difference a b d m c k t (nat_abs bound)))
 
--- document 01's number and values for each case of the code's answers
-abbrev pub search_outcome : SearchAnswer → Outcome Found
-search_outcome (search.At n) = value (at n)
-search_outcome search.NoneBelow = value none
-search_outcome (search.Refused why) = refused (refusal_number why)
+-- the number and values for each case of the code's answers
+abbrev pub search_outcome : Result (Option ℕ) Refusal → Outcome Found
+search_outcome (Ok (Some n)) = value (at n)
+search_outcome (Ok None) = value none
+search_outcome (Err why) = refused (refusal_number why)
 
-abbrev pub claim_outcome : ClaimAnswer → Outcome Acceptance
-claim_outcome claim.Accepted = value accepted
-claim_outcome (claim.Refused why) = refused (refusal_number why)
-claim_outcome (claim.RefusedAt why n) = refused_at (refusal_number why) n
+abbrev pub claim_outcome : Result (Unit {0}) (RefusalAt ℕ) → Outcome Acceptance
+claim_outcome (Ok done) = value accepted
+claim_outcome (Err (Alone why)) = refused (refusal_number why)
+claim_outcome (Err (At why n)) = refused_at (refusal_number why) n

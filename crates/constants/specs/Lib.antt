@@ -4,6 +4,7 @@ pub mod Least
 pub mod Limits
 pub mod Answers
 -- What only proofs and private contracts need.
-pub mod Allowed
+pub mod Trial
 pub mod Stairs
 pub mod Residues
+pub mod Sides

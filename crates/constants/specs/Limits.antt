@@ -1,6 +1,8 @@
 -- "Allowed: a 1..1023, b 0..1023, d 1..1048575, m and c 0..4294967295, k 0..47, t 0..255, search end L 0..4294967295,
 -- claimed bound B 0..4294967294": document 01, "Constants on trial".
-use Rattle.std.specs.Prelude.{ℕ, ℤ, pos, Bool, ◌||◌}
+use Rattle.std.specs.Prelude.{ℕ, ◌≤◌, ℤ, pos, nat_abs, Bool, true, false, ◌||◌, ◌≡◌, Result, Ok, Err}
+use Rattle.refusal.specs.declared.Refusal.{Refusal}
+use Rattle.refusal.specs.declared.Refusal.TheVariants.{ConstantOutOfLimits}
 use Rattle.numbers.specs.Range.{outside, Within}
 
 -- the first allowed number, where it is not 0
@@ -63,3 +65,27 @@ pub record AllWithin (a b d m c k t : ℤ) : Type 0 where
   pub c_in : Within 0 last_c c
   pub k_in : Within 0 last_k k
   pub t_in : Within 0 last_t t
+
+-- what only private contracts need: the constants as natural numbers lie in their limits
+pub record Allowed (a b d m c k t : ℕ) : Type 0 where
+  pub a_lo : first_a ≤ a
+  pub a_hi : a ≤ last_a
+  pub b_hi : b ≤ last_b
+  pub d_lo : first_d ≤ d
+  pub d_hi : d ≤ last_d
+  pub m_hi : m ≤ last_m
+  pub c_hi : c ≤ last_c
+  pub k_hi : k ≤ last_k
+  pub t_hi : t ≤ last_t
+
+-- a number that lies in first..last, and the same as a natural number
+pub record IsInside (first last : ℕ) (z : ℤ) (n : ℕ) : Type 0 where
+  pub inside : outside (pos first) (pos last) z ≡ false
+  pub is : n ≡ nat_abs z
+  pub low : first ≤ n
+  pub high : n ≤ last
+
+-- what the test of a number against its limits tells
+abbrev pub TestsNumber : (first last : ℕ) (z : ℤ) → Result ℕ Refusal → Type 0
+TestsNumber first last z (Ok n) = IsInside first last z n
+TestsNumber first last z (Err why) = (outside (pos first) (pos last) z ≡ true) × (why ≡ ConstantOutOfLimits)

@@ -1,102 +1,55 @@
-// Constants on trial (document 01, "Constants on trial"): where a device's multiply-and-shift quotient, (m*n + c) >> k, is more than t
-// from the floor of (a*n + b) / d.
+// Constants on trial: where a device's multiply-and-shift quotient, (m*n + c) >> k, is more than t from the floor of (a*n + b) / d.
 //
-//     first_difference(a, b, d, m, c, k, t, end)        the least such n below `end`, or none        refusal 9
-//     check_bound(a, b, d, m, c, k, t, bound)           accepted, if `bound` is the least            refusals 9, then 10 with the least n, or 11
+//     first_difference(constants, end)       the least such n below `end`, or None          refusal 9
+//     check_bound(constants, bound)          accepted, if `bound` is the least              refusals 9, then 10 with the least n, or 11
 
 #![tactic(auto)]
 
-use limits::Tested;
-use refusal::Refusal;
+use refusal::{Refusal, RefusalAt};
+use trial::Trial;
 
 mod limits;
-mod plain;
-mod quotients;
 mod search;
 mod stairs;
+mod trial;
 
 ghost use Rattle.std.specs.Prelude.{◌≡◌};
 ghost use Rattle.constants.specs.Answers.{difference_answer, bound_answer, search_outcome, claim_outcome};
 
-#[derive(Clone, Copy)]
-pub enum SearchAnswer {
-    // the least n below the end with a difference
-    At(u64),
-    // no difference below the end
-    NoneBelow,
-    // 9
-    Refused(Refusal),
+// The constants of a device as they are handed in: (a*n + b) / d is to be (m*n + c) >> k, within t.
+#[derive(Clone, Copy, Debug, PartialEq, Eq)]
+pub struct Constants {
+    pub a: i64,
+    pub b: i64,
+    pub d: i64,
+    pub m: i64,
+    pub c: i64,
+    pub k: i64,
+    pub t: i64,
 }
 
-#[derive(Clone, Copy)]
-pub enum ClaimAnswer {
-    // the least difference is at the bound
-    Accepted,
-    // 9, or 11
-    Refused(Refusal),
-    // 10, with the least n that has a difference
-    RefusedAt(Refusal, u64),
-}
-
-// The least n below `end` with a difference, or none below it.
-pub fn first_difference(
-    a: i64,
-    b: i64,
-    d: i64,
-    m: i64,
-    c: i64,
-    k: i64,
-    t: i64,
-    end: i64,
-) -> SearchAnswer
-    ensures answer { search_outcome result ≡ difference_answer a b d m c k t end }
+// The least n below `end` with a difference, or None.
+pub fn first_difference(constants: Constants, end: i64) -> Result<Option<u64>, Refusal>
+    ensures answer { search_outcome result ≡ difference_answer constants.a constants.b constants.d constants.m constants.c constants.k constants.t end }
 {
-    let Tested::Inside(q, end) = limits::test_limits(a, b, d, m, c, k, t, end, limits::END_LAST)
-    else {
-        return SearchAnswer::Refused(Refusal::ConstantOutOfLimits);
-    };
-    let n = search::least_difference(q, end);
-    if n < end {
-        SearchAnswer::At(n)
-    } else {
-        SearchAnswer::NoneBelow
-    }
+    let trial = Trial::try_from(constants)?;
+    let end = limits::natural(0, limits::END_LAST, end)?;
+    Ok(search::least_difference(trial, end).map(u64::from))
 }
 
 // Whether `bound` is the least n with a difference. 10 hands back the least n, which is below `bound`; 11 says that no n up to `bound`
 // has one.
-pub fn check_bound(
-    a: i64,
-    b: i64,
-    d: i64,
-    m: i64,
-    c: i64,
-    k: i64,
-    t: i64,
-    bound: i64,
-) -> ClaimAnswer
-    ensures answer { claim_outcome result ≡ bound_answer a b d m c k t bound }
+pub fn check_bound(constants: Constants, bound: i64) -> Result<(), RefusalAt<u64>>
+    ensures answer { claim_outcome result ≡ bound_answer constants.a constants.b constants.d constants.m constants.c constants.k constants.t bound }
 {
-    let Tested::Inside(q, bound) = limits::test_limits(
-        a,
-        b,
-        d,
-        m,
-        c,
-        k,
-        t,
-        bound,
-        limits::BOUND_LAST,
-    ) else {
-        return ClaimAnswer::Refused(Refusal::ConstantOutOfLimits);
-    };
-    let n = search::least_difference(q, bound);
-    if n < bound {
-        return ClaimAnswer::RefusedAt(Refusal::DifferenceBelowBound, n);
+    let trial = Trial::try_from(constants)?;
+    let bound = limits::natural(0, limits::BOUND_LAST, bound)?;
+    if let Some(n) = search::least_difference(trial, bound) {
+        return Err(RefusalAt::At(Refusal::DifferenceBelowBound, u64::from(n)));
     }
-    if quotients::differ(q, bound) {
-        ClaimAnswer::Accepted
+    if trial.differs(bound) {
+        Ok(())
     } else {
-        ClaimAnswer::Refused(Refusal::NoDifferenceUpToBound)
+        Err(RefusalAt::Alone(Refusal::NoDifferenceUpToBound))
     }
 }
