@@ -62,9 +62,13 @@ in_year k h =
     let f = and_right (eqb (get_or entries k 0) _) _ (followed k h) in
     (eqb-true _ _ (and_left (eqb (month_in months k) (closed_month k)) _ f), eqb-true _ _ (and_right (eqb (month_in months k) (closed_month k)) _ f))
 
-pub past_year : (k : ℕ) → 366 ≤ k → (month_at k ≡ 0) × (day_at k ≡ 0)
-unfolding month_at day_at
-past_year k h = past_months months k h
+pub no_month : (k : ℕ) → 366 ≤ k → month_at k ≡ 0
+unfolding month_at
+no_month k h = (past_months months k h).0
+
+pub no_day : (k : ℕ) → 366 ≤ k → day_at k ≡ 0
+unfolding day_at
+no_day k h = (past_months months k h).1
 
 pub rule : (k : ℕ) → get_or entries k 0 ≡ month_and_day k
 unfolding month_at day_at follows
@@ -81,7 +85,7 @@ small k = go (dec_lt k 366)
   where
     go : Dec (k < 366) → (month_at k ≤ 14) × (day_at k ≤ 31)
     go (yes h) = let e = in_year k h in (omega (arith, e.0), omega (arith, e.1))
-    go (no h) = let e = past_year k (omega arith) in (omega (arith, e.0), omega (arith, e.1))
+    go (no h) = (omega (arith, no_month k (omega arith)), omega (arith, no_day k (omega arith)))
 
 -- when month m begins, in days and in the product
 starts : (m : ℕ) → 3 ≤ m → m ≤ 14 → Dec (m < 4) →
@@ -119,3 +123,6 @@ module _ (k : ℕ) (h : k < 366) where
 
   pub day_at_lem : (2141 * k + 197913) % 2 ^ 16 / 2141 + 1 ≡ day_at k
   day_at_lem = ap (λ d. d + 1) day_is ∙ sym (in_year k h).1
+
+-- what `month` needs of these
+pub ruleset month_rules = (no_month, month_is, month_late, month_early)
