@@ -11,10 +11,11 @@ use denote.Triple.Spec.{Meets}
 use seplogic.Ra.Ura.{Ura}
 use prog.Model.{Model}
 use prog.Wired.{Wired}
-use Rattle.refusal.specs.Outcome.{Outcome}
+use Rattle.std.specs.Prelude.{Result}
+use Rattle.refusal.specs.Outcome.{Outcome, outcome}
+use Rattle.refusal.specs.declared.Refusal.{Refusal}
 use Rattle.calendar.specs.declared.Date.{Date}
-use Rattle.calendar.specs.declared.DateAnswer.{DateAnswer}
-use Rattle.calendar.specs.Answers.{date_outcome, civil_answer}
+use Rattle.calendar.specs.Answers.{civil_answer}
 use Rattle.calendar.specs.contracts.civil_from_days as fast
 use Rattle.calendar.proofs.civil_from_days.Met as fast_met
 use Rattle.calendar.proofs.civil_from_days.Symbol as fast_symbol
@@ -30,16 +31,16 @@ use Rattle.calendar.proofs.month_table.civil_from_days.Symbol as table_symbol
 
 module _ {M : Type 1} {𝓤 : Ura M} (𝓛 : Logic 𝓤) (𝓜 : Model 𝓤 𝓛.H) (𝓡 : Running 𝓤 𝓛.H 𝓜) where
   -- what the `ensures` of each says of its answer to a count
-  abbrev fast_says : Args fast.signature tt → AtExit fast.ended tt → DateAnswer → SProp 𝓤
+  abbrev fast_says : Args fast.signature tt → AtExit fast.ended tt → Result Date Refusal → SProp 𝓤
   fast_says given end answer = (fast.clauses 𝓛 𝓜.mem 𝓡.returns tt given).ensures tt answer end
 
-  abbrev plain_says : Args plain.signature tt → AtExit plain.ended tt → DateAnswer → SProp 𝓤
+  abbrev plain_says : Args plain.signature tt → AtExit plain.ended tt → Result Date Refusal → SProp 𝓤
   plain_says given end answer = (plain.clauses 𝓛 𝓜.mem 𝓡.returns tt given).ensures tt answer end
 
-  abbrev audit_says : Args audit.signature tt → AtExit audit.ended tt → DateAnswer → SProp 𝓤
+  abbrev audit_says : Args audit.signature tt → AtExit audit.ended tt → Result Date Refusal → SProp 𝓤
   audit_says given end answer = (audit.clauses 𝓛 𝓜.mem 𝓡.returns tt given).ensures tt answer end
 
-  abbrev table_says : Args table.signature tt → AtExit table.ended tt → DateAnswer → SProp 𝓤
+  abbrev table_says : Args table.signature tt → AtExit table.ended tt → Result Date Refusal → SProp 𝓤
   table_says given end answer = (table.clauses 𝓛 𝓜.mem 𝓡.returns tt given).ensures tt answer end
 
   -- two answers that are each the one that is defined
@@ -55,14 +56,14 @@ module _ {M : Type 1} {𝓤 : Ura M} (𝓛 : Logic 𝓤) (𝓜 : Model 𝓤 𝓛
   -- way, and the fast code that of the plain one
   pub record Equal : Type 2 where
     pub plain_same :
-        (given : Args fast.signature tt) (end : AtExit fast.ended tt) (r s : DateAnswer) →
-        ent 𝓤 (conj 𝓤 (fast_says given end r) (plain_says given end s)) (fact 𝓤 (date_outcome r ≡ date_outcome s))
+        (given : Args fast.signature tt) (end : AtExit fast.ended tt) (r s : Result Date Refusal) →
+        ent 𝓤 (conj 𝓤 (fast_says given end r) (plain_says given end s)) (fact 𝓤 (outcome r ≡ outcome s))
     pub audit_same :
-        (given : Args fast.signature tt) (end : AtExit fast.ended tt) (r s : DateAnswer) →
-        ent 𝓤 (conj 𝓤 (fast_says given end r) (audit_says given end s)) (fact 𝓤 (date_outcome r ≡ date_outcome s))
+        (given : Args fast.signature tt) (end : AtExit fast.ended tt) (r s : Result Date Refusal) →
+        ent 𝓤 (conj 𝓤 (fast_says given end r) (audit_says given end s)) (fact 𝓤 (outcome r ≡ outcome s))
     pub table_same :
-        (given : Args fast.signature tt) (end : AtExit fast.ended tt) (r s : DateAnswer) →
-        ent 𝓤 (conj 𝓤 (fast_says given end r) (table_says given end s)) (fact 𝓤 (date_outcome r ≡ date_outcome s))
+        (given : Args fast.signature tt) (end : AtExit fast.ended tt) (r s : Result Date Refusal) →
+        ent 𝓤 (conj 𝓤 (fast_says given end r) (table_says given end s)) (fact 𝓤 (outcome r ≡ outcome s))
     pub fast_meets : Wired 𝓡.env fast_symbol.code → Meets 𝓛 fast.signature (𝓡.run (𝓡.env fast_symbol.name)) (plain.spec 𝓛 𝓜.mem 𝓡.returns)
     pub plain_meets : Wired 𝓡.env plain_symbol.code → Meets 𝓛 plain.signature (𝓡.run (𝓡.env plain_symbol.name)) (fast.spec 𝓛 𝓜.mem 𝓡.returns)
     pub audit_meets : Wired 𝓡.env audit_symbol.code → Meets 𝓛 audit.signature (𝓡.run (𝓡.env audit_symbol.name)) (fast.spec 𝓛 𝓜.mem 𝓡.returns)
@@ -70,9 +71,9 @@ module _ {M : Type 1} {𝓤 : Ura M} (𝓛 : Logic 𝓤) (𝓜 : Model 𝓤 𝓛
 
   pub all_ways : Equal
   all_ways = record {
-    plain_same = λ given end r s. same (civil_answer given.0) (date_outcome r) (date_outcome s);
-    audit_same = λ given end r s. same (civil_answer given.0) (date_outcome r) (date_outcome s);
-    table_same = λ given end r s. same (civil_answer given.0) (date_outcome r) (date_outcome s);
+    plain_same = λ given end r s. same (civil_answer given.0) (outcome r) (outcome s);
+    audit_same = λ given end r s. same (civil_answer given.0) (outcome r) (outcome s);
+    table_same = λ given end r s. same (civil_answer given.0) (outcome r) (outcome s);
     fast_meets = fast_met.met 𝓤 𝓛 𝓜 𝓡;
     plain_meets = plain_met.met 𝓤 𝓛 𝓜 𝓡;
     audit_meets = audit_met.met 𝓤 𝓛 𝓜 𝓡;

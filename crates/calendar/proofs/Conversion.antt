@@ -8,9 +8,9 @@ use lib.IntN.{pos, ◌+ℤ◌, +ℤ_comm}
 use lib.Dec.{leb}
 use borrow.Author.Tests.{leb-true, leb-false}
 use mir.Syntax.{w64}
-use mir.Val.{SFits, to_z, bool_byte}
+use mir.Val.{to_z, bool_byte}
 use mir.Facts.{to_z_pos}
-use Rattle.numbers.proofs.Machine.{read, add_first, add_first_is}
+use Rattle.numbers.proofs.Machine.{read, add_first_is}
 use Rattle.calendar.specs.Gregorian.{date_of, date_after}
 use Rattle.day_table.specs.Closed.{new_year, closed_month, closed_day}
 use Rattle.day_table.proofs.Rule.{new_year_lem}
@@ -72,9 +72,6 @@ module _ (n : ℕ) (h : n ≤ last_day) where
 
   pub year_fits : march_year n + new_year (march_day n) < 2 ^ 32
   year_fits = omega (arith, new_year_le)
-
-  pub year_adds : {y : ℕ} → y ≡ march_year n + new_year (march_day n) → SFits w64 (to_z w64 y +ℤ base_year)
-  year_adds {y} e = let l = year_fits in add_first base_year y (omega arith)
 
   pub date_made :
       {y m d : ℕ} → y ≡ march_year n + new_year (march_day n) → m ≡ closed_month (march_day n) → d ≡ closed_day (march_day n) →

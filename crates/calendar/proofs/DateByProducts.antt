@@ -7,14 +7,14 @@ use lib.Dec.{leb}
 use borrow.Author.Tests.{leb-true, leb-false}
 use lib.IntN.{◌+ℤ◌}
 use mir.Syntax.{w64}
-use mir.Val.{SFits, to_z, bool_byte}
+use mir.Val.{to_z, bool_byte}
 use Rattle.numbers.proofs.Machine.{read}
 use Rattle.day_table.specs.Year.{month_at, day_at, month_and_day}
 use Rattle.day_table.specs.Closed.{new_year}
 use Rattle.day_table.proofs.Rule.{in_year, small}
 use Rattle.calendar.specs.Gregorian.{date_of, date_after}
 use Rattle.calendar.specs.Closed.{base_year, last_day}
-use Rattle.calendar.proofs.Conversion.{regular, march_year, march_day, day_of_lem, day_small, year_adds, date_made}
+use Rattle.calendar.proofs.Conversion.{regular, march_year, march_day, day_of_lem, day_small, date_made}
 
 -- the year from January is a year further on in January and February
 january : (w : ℕ) → (4 * (w + 1) + 236) / 1461 ≡ (4 * w + 3) / 1461 + new_year ((4 * w + 3) % 1461 / 4)
@@ -32,9 +32,6 @@ parts k = (omega (arith, (small k).1), omega (arith, (small k).1))
 module _ (n : ℕ) (h : n ≤ last_day) {d y : ℕ} (e : d ≡ regular n + 1) (f : y ≡ (4 * d + 236) / 1461) where
   year_is : y ≡ march_year n + new_year (march_day n)
   year_is = f ∙ ap (λ d. (4 * d + 236) / 1461) e ∙ january (regular n) ∙ ap (λ k. march_year n + new_year k) (sym (day_of_lem (regular n)))
-
-  pub year_added : SFits w64 (to_z w64 y +ℤ base_year)
-  year_added = year_adds n h year_is
 
   module _ {k : ℕ} (g : k ≡ (4 * d - 1) % 1461 / 4) where
     day_is : k ≡ march_day n

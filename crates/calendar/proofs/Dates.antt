@@ -1,35 +1,34 @@
 -- Valid dates and their counts.
 use Prim.Native.Nat.{ℕ, ◌+◌, ◌-◌, ◌≤◌}
 use mathlib.Core.Path.{◌≡◌, refl, sym, ap, ◌∙◌, subst}
-use mathlib.Core.Bool.{Bool, true, false, cond}
+use mathlib.Core.Bool.{Bool, true, false, cond, not}
 use native.Mathlib.Omega.{arith}
-use lib.Dec.{T}
-use lib.IntN.{ℤ, pos, nat_abs, ◌+ℤ◌, +ℤ_assoc}
-use lib.Signed.{non_neg}
+use lib.IntN.{ℤ, pos, nat_abs, ◌+ℤ◌, +ℤ_assoc, +ℤ_comm}
+use borrow.Author.Tests.{not-true, not-false}
 use mir.Syntax.{w64}
-use mir.Val.{SFits, Fits}
-use Rattle.refusal.specs.declared.Refusal.{Refusal}
-use Rattle.refusal.specs.Numbers.{refusal_number}
+use mir.Val.{SFits, to_z, of_z}
+use mir.Facts.{to_z-of_z, to_z_pos}
+use Rattle.std.specs.Int.{int_wrapping_add}
 use Rattle.refusal.specs.Outcome.{Outcome, value, refused}
 use Rattle.numbers.specs.Range.{outside, since}
 use Rattle.numbers.proofs.Integers.{inside, since_add}
 use Rattle.numbers.proofs.Between.{natural_within}
 use Rattle.numbers.proofs.Based as based
-use Rattle.numbers.proofs.Machine.{read, cast_pos}
+use Rattle.numbers.proofs.Machine.{read, add_first_is}
 use Rattle.calendar.specs.declared.Date.{Date}
-use Rattle.calendar.specs.declared.Checked.{Checked}
-use Rattle.calendar.specs.declared.Checked.TheVariants as C
 use Rattle.calendar.specs.Range.{first_year, last_year, first_count, last_count}
 use Rattle.calendar.specs.Gregorian.{month_length, date_of, date_after, ValidDate}
-use Rattle.calendar.specs.Count.{date_of_count, count_of_date, day_of_year}
-use Rattle.calendar.specs.Answers.{of_date, days_answer, civil_answer, add_days_answer}
-use Rattle.calendar.specs.Checked.{checked_outcome}
+use Rattle.calendar.specs.Count.{count_of_date, day_of_year}
+use Rattle.calendar.specs.Answers.{of_date, days_answer, day_of_year_answer, civil_answer, add_days_answer}
+use Rattle.calendar.specs.declared.checked_date.CheckedDate.{CheckedDate}
+use Rattle.calendar.specs.Checked.{public_date, year_answer, month_answer}
 use Rattle.calendar.specs.Closed.{base_year, base_count, cycle, last_day, leap_day, month_days, before, Valid, InRange, day_number, public}
 use Rattle.calendar.proofs.Leap.{leap_le}
 use Rattle.calendar.proofs.Months.{length_le, before_public}
 use Rattle.calendar.proofs.DayTests.{accepted_length}
+use Rattle.calendar.proofs.Shift.{civil_shifted}
 use Rattle.calendar.proofs.Steps.{found, number_in_range, count_after}
-use Rattle.calendar.proofs.Tests.{day_decides, accepted_valid, accepted_is, accepted_answer, date_refused, of_read}
+use Rattle.calendar.proofs.Tests.{day_decides, accepted_valid, accepted_is, accepted_answer, date_refused, year_passes, month_passes, year_refuses, month_refuses}
 
 -- a date in natural numbers
 pub record NaturalDate (date : Date) : Type 0 where
@@ -114,39 +113,110 @@ count_inside d v =
     let k = counted d v in
     ap (outside first_count last_count) k.count_is ∙ inside first_count last_count refl k.n k.small
 
--- what the test of the day makes of a year and a month that were accepted
-module _ (year month day : ℤ) (y : ℕ) (p : outside first_year last_year year ≡ false) (q : outside (pos 1) (pos 12) month ≡ false)
-    (e : base_year +ℤ pos y ≡ year) where
-  day_tested : {t : Bool} → outside (pos 1) (pos (month_days (leap_day y) (nat_abs month))) day ≡ t → outside (pos 1) (month_length year month) day ≡ t
-  day_tested h = ap (λ l. outside (pos 1) l day) (accepted_length year month y q e) ∙ h
+-- a date is refused with its year
+pub date_refuses_year :
+    (year month day : ℤ) (k : ℕ) → SFits w64 year → refused k ≡ year_answer (to_z w64 (of_z w64 year)) → refused k ≡ of_date year month day value
+date_refuses_year year month day k f e = year_refuses year month day value k (e ∙ ap year_answer (to_z-of_z f))
+
+-- what is known of a date whose year and month passed their tests
+module _ (year month day : ℤ) (y m : ℕ) (p : outside first_year last_year year ≡ false) (q : outside (pos 1) (pos 12) month ≡ false)
+    (e : base_year +ℤ pos y ≡ year) (g : m ≡ nat_abs month) where
+  day_tested : {t : Bool} → outside (pos 1) (pos (month_days (leap_day y) m)) day ≡ t → outside (pos 1) (month_length year month) day ≡ t
+  day_tested h =
+      ap (λ l. outside (pos 1) l day) (accepted_length year month y q e ∙ ap (λ m. pos (month_days (leap_day y) m)) (sym g)) ∙ h
 
   decided :
       {t : Bool} → outside (pos 1) (month_length year month) day ≡ t →
       of_date year month day value ≡ cond t (refused 3) (value (date_of year month day))
   decided h = day_decides year month day value p q ∙ ap (λ t. cond t (refused 3) (value (date_of year month day))) h
 
-  pub day_refused : outside (pos 1) (pos (month_days (leap_day y) (nat_abs month))) day ≡ true → refused 3 ≡ of_date year month day value
+  day_refused : outside (pos 1) (pos (month_days (leap_day y) m)) day ≡ true → refused 3 ≡ of_date year month day value
   day_refused h = sym (decided (day_tested h))
 
-  module _ (h : outside (pos 1) (pos (month_days (leap_day y) (nat_abs month))) day ≡ false) where
-    accepted : ValidDate (date_of year month day)
-    accepted = record { year_inside = p; month_inside = q; day_inside = day_tested h }
+  date_accepted :
+      outside (pos 1) (pos (month_days (leap_day y) m)) day ≡ false →
+      (value (public y m (nat_abs day)) ≡ of_date year month day value) × InRange y m (nat_abs day)
+  unfolding natural
+  date_accepted h =
+      let n = natural (date_of year month day) (record { year_inside = p; month_inside = q; day_inside = day_tested h }) in
+      let s : since base_year year ≡ y = ap (since base_year) (sym e) ∙ since_add base_year y in (
+        ap value ((λ i. public (sym s i) (g i) (nat_abs day)) ∙ sym n.is) ∙ sym (decided (day_tested h)),
+        subst (λ m. InRange y m (nat_abs day)) (sym g) (subst (λ y. InRange y (nat_abs month) (nat_abs day)) s n.in_range_lem),
+      )
 
-    pub day_cast : T (non_neg day) × Fits w64 (nat_abs day)
-    day_cast =
-        let n = natural (date_of year month day) accepted in
-        cast_pos w64 n.d (omega (arith, day_small n.y n.m n.d n.is_valid)) (ap (λ (d : Date). d.day) n.is)
+-- the numbers that the tests read, and what they answered for them
+module _ (year month day : ℤ) (y : ℕ) (fy : SFits w64 year) (fm : SFits w64 month) (e : value y ≡ year_answer (to_z w64 (of_z w64 year))) where
+  year_known : (outside first_year last_year year ≡ false) × (base_year +ℤ pos y ≡ year)
+  year_known = year_passes year y (e ∙ ap year_answer (to_z-of_z fy))
 
-    pub date_accepted :
-        (value (public y (nat_abs month) (nat_abs day)) ≡ of_date year month day value)
-        × InRange y (nat_abs month) (nat_abs day)
-    unfolding natural
-    date_accepted =
-        let n = natural (date_of year month day) accepted in
-        let s : since base_year year ≡ y = ap (since base_year) (sym e) ∙ since_add base_year y in (
-          ap value ((λ i. public (sym s i) (nat_abs month) (nat_abs day)) ∙ sym n.is) ∙ sym (decided (day_tested h)),
-          subst (λ y. InRange y (nat_abs month) (nat_abs day)) s n.in_range_lem,
-        )
+  -- a date is refused with its month
+  pub date_refuses_month : (k : ℕ) → refused k ≡ month_answer (to_z w64 (of_z w64 month)) → refused k ≡ of_date year month day value
+  date_refuses_month k h = month_refuses year month day value k year_known.0 (h ∙ ap month_answer (to_z-of_z fm))
+
+  module _ (m : ℕ) (t : Bool) (fd : SFits w64 day) (h : value m ≡ month_answer (to_z w64 (of_z w64 month)))
+      (r : t ≡ not (outside (pos 1) (pos (month_days (leap_day y) m)) (to_z w64 (of_z w64 day)))) where
+    month_known : (outside (pos 1) (pos 12) month ≡ false) × (m ≡ nat_abs month)
+    month_known = month_passes month m (h ∙ ap month_answer (to_z-of_z fm))
+
+    day_known : t ≡ not (outside (pos 1) (pos (month_days (leap_day y) m)) day)
+    day_known = r ∙ ap (λ d. not (outside (pos 1) (pos (month_days (leap_day y) m)) d)) (to_z-of_z fd)
+
+    -- and then with its day
+    pub date_refuses_day : t ≡ false → refused 3 ≡ of_date year month day value
+    date_refuses_day n = day_refused year month day y m year_known.0 month_known.0 year_known.1 month_known.1 (not-false _ (sym day_known ∙ n))
+
+    accepted : t ≡ true → (value (public y m (nat_abs day)) ≡ of_date year month day value) × InRange y m (nat_abs day)
+    accepted n = date_accepted year month day y m year_known.0 month_known.0 year_known.1 month_known.1 (not-true _ (sym day_known ∙ n))
+
+    -- or it is accepted, and lies in the range
+    pub date_accepts : t ≡ true → value (public y m (nat_abs (to_z w64 (of_z w64 day)))) ≡ of_date year month day value
+    date_accepts n = ap (λ d. value (public y m (nat_abs d))) (to_z-of_z fd) ∙ (accepted n).0
+
+    pub date_in_range : t ≡ true → InRange y m (nat_abs (to_z w64 (of_z w64 day)))
+    date_in_range n = subst (λ (d : ℤ). InRange y m (nat_abs d)) (sym (to_z-of_z fd)) (accepted n).1
+
+-- what a refused test of a date needs
+pub ruleset refused_dates = (date_refuses_year, date_refuses_month, date_refuses_day)
+
+-- the day of a tested date
+pub checked_day_small : (c : CheckedDate) → c.day ≤ 31
+checked_day_small c = day_small c.year c.month.number c.day c.in_range.is_valid
+
+-- a refused date has no count and no day of the year
+pub days_refuses : (year month day : ℤ) (k : ℕ) → refused k ≡ of_date year month day value → refused k ≡ days_answer year month day
+unfolding days_answer
+days_refuses year month day k e = date_refused year month day (λ d. d) k (λ d. value (count_of_date d)) e
+
+pub day_of_year_refuses : (year month day : ℤ) (k : ℕ) → refused k ≡ of_date year month day value → refused k ≡ day_of_year_answer year month day
+unfolding day_of_year_answer
+day_of_year_refuses year month day k e = date_refused year month day (λ d. d) k (λ d. value (day_of_year d)) e
+
+-- an accepted one has those of the date that was made of it
+module _ (year month day : ℤ) (c : CheckedDate) (e : value (public_date c) ≡ of_date year month day value) where
+  answered_as : {B : Type 0} (g : Date → B) → value (g (public_date c)) ≡ of_date year month day (λ d. value (g d))
+  answered_as g =
+      ap (λ d. value (g d)) (accepted_is year month day (λ d. d) (public_date c) e)
+      ∙ sym (accepted_answer year month day (λ d. d) (public_date c) e (λ d. value (g d)))
+
+  pub days_accepts : (s : ℕ) → s ≡ day_number c.year c.month.number c.day → value (read (to_z w64 s +ℤ base_count)) ≡ days_answer year month day
+  unfolding days_answer public_date
+  days_accepts s p =
+      let l = number_in_range c.year c.month.number c.day c.in_range in
+      ap value
+      (add_first_is base_count s (omega (arith, l.1)) ∙ +ℤ_comm (pos s) base_count ∙ ap (λ n. base_count +ℤ pos n) p
+      ∙ count_base c.year c.month.number c.day c.in_range)
+      ∙ answered_as count_of_date
+
+  pub day_of_year_accepts :
+      (b : ℕ) → b ≡ before (leap_day c.year) c.month.number → b ≤ 335 → value (to_z w64 (b + c.day)) ≡ day_of_year_answer year month day
+  unfolding day_of_year_answer public_date
+  day_of_year_accepts b p h =
+      let l = checked_day_small c in
+      ap value (to_z_pos w64 (omega arith) ∙ ap (λ b. pos (b + c.day)) p ∙ sym (year_day c.year c.month.number c.day c.in_range.is_valid))
+      ∙ answered_as day_of_year
+
+-- what a date's day of the year needs
+pub ruleset day_of_year_rules = (day_of_year_refuses, day_of_year_accepts)
 
 -- shifted dates
 module _ (year month day z : ℤ) (h : value z ≡ days_answer year month day) where
@@ -162,30 +232,12 @@ module _ (year month day z : ℤ) (h : value z ≡ days_answer year month day) w
       accepted_answer year month day count_of_date z h (λ d. civil_answer (count_of_date d +ℤ p))
       ∙ ap (λ c. civil_answer (c +ℤ p)) (sym (accepted_is year month day count_of_date z h))
 
-  decided_by : (p : ℤ) (t : Bool) → outside first_count last_count (z +ℤ p) ≡ t → add_days_answer year month day p ≡ cond t (refused 4) (value (date_of_count (z +ℤ p)))
-  unfolding civil_answer
-  decided_by p t o = added p ∙ ap (λ t. cond t (refused 4) (value (date_of_count (z +ℤ p)))) o
+  -- by the sum as the machine takes it
+  pub add_accepts :
+      (p : ℤ) (o : Outcome Date) → SFits w64 z → SFits w64 p → o ≡ civil_answer (int_wrapping_add w64 z p) → o ≡ add_days_answer year month day p
+  add_accepts p o f g q = q ∙ civil_shifted z p days_inside f g ∙ sym (added p)
 
-  pub added_inside : (p : ℤ) → outside first_count last_count (z +ℤ p) ≡ false → value (date_of_count (z +ℤ p)) ≡ add_days_answer year month day p
-  added_inside p o = sym (decided_by p false o)
-
-  pub added_outside : (p : ℤ) → outside first_count last_count (z +ℤ p) ≡ true → refused 4 ≡ add_days_answer year month day p
-  added_outside p o = sym (decided_by p true o)
-
-pub not_added : (year month day p : ℤ) (k : ℕ) → refused k ≡ days_answer year month day → refused k ≡ add_days_answer year month day p
+-- a refused date is not shifted
+pub add_refuses : (year month day p : ℤ) (k : ℕ) → refused k ≡ days_answer year month day → refused k ≡ add_days_answer year month day p
 unfolding add_days_answer days_answer
-not_added year month day p k h = date_refused year month day count_of_date k (λ d. civil_answer (count_of_date d +ℤ p)) h
-
--- what a tested date answers
-module _ {year month day : ℤ} (fy : SFits w64 year) (fm : SFits w64 month) (fd : SFits w64 day) {r : Checked}
-    (e : checked_outcome r ≡ of_date (read year) (read month) (read day) value) where
-  pub checked_value : {B : Type 0} (g : Date → B) {y m d : ℕ} → r ≡ C.Accepted y m d → value (g (public y m d)) ≡ of_date year month day (λ d. value (g d))
-  checked_value g {y} {m} {d} p =
-      let h : value (public y m d) ≡ of_date (read year) (read month) (read day) value = ap checked_outcome (sym p) ∙ e in
-      ap (λ d. value (g d)) (accepted_is (read year) (read month) (read day) (λ d. d) (public y m d) h)
-      ∙ sym (accepted_answer (read year) (read month) (read day) (λ d. d) (public y m d) h (λ d. value (g d)))
-      ∙ of_read fy fm fd (λ d. value (g d))
-
-  pub checked_refused : {A : Type 0} (f : Date → Outcome A) {x : Refusal} → r ≡ C.Refused x → refused (refusal_number x) ≡ of_date year month day f
-  checked_refused f {x} p =
-      date_refused (read year) (read month) (read day) (λ d. d) (refusal_number x) f (ap checked_outcome (sym p) ∙ e) ∙ of_read fy fm fd f
+add_refuses year month day p k h = date_refused year month day count_of_date k (λ d. civil_answer (count_of_date d +ℤ p)) h

@@ -46,6 +46,15 @@ pub leap_is_zero : (y : ℕ) → (y % 4 ≡ 0 → (y % 100 ≡ 0) × (y % 400 �
 leap_is_zero y h =
     leap_cases (λ l. l ≡ 0) y (λ a. refl) (λ a b. absurd (b (h a).0)) (λ a b c. refl) (λ a b c. absurd ((h a).1 c))
 
+-- the year is leap where its leap days are 1
+leap_flag : (y : ℕ) → eqb (leap_day y) 1 ≡ leapℕ y
+unfolding leap_day
+leap_flag y = go (leapℕ y)
+  where
+    go : (t : Bool) → eqb (cond t 1 0) 1 ≡ t
+    go true = refl
+    go false = refl
+
 -- 25 and 4 divide a year only where 100 does, 25 and 16 only where 400 does
 by_100 : (y : ℕ) → y % 25 ≡ 0 → y % 4 ≡ 0 → y % 100 ≡ 0
 by_100 y h k = let p : y ≡ 100 * (y / 4 - 6 * (y / 25)) = omega arith in ap (λ y. y % 100) p ∙ mul-mod_right 100 _
@@ -69,20 +78,12 @@ module _ (y r : ℕ) (by-16 : y % 25 ≡ 0 → r ≡ y % 16) (by_4 : (y % 25 ≡
       go (yes e) = let p = by-16 e in leap_is_zero y (λ k. (by_100 y e k, λ i. omega arith))
       go (no e) = let p = by_4 e in leap_is_zero y (λ k. omega arith)
 
-  pub rest_flag : bool_byte (eqb r 0) ≡ leap_day y
+  pub rest_flag : eqb r 0 ≡ leapℕ y
   rest_flag = go (eqb r 0) refl
     where
-      go : (t : Bool) → eqb r 0 ≡ t → bool_byte t ≡ leap_day y
-      go true e = sym (rest_zero (eqb-true r 0 e))
-      go false e = sym (rest_left (eqb-false r 0 e))
-
-pub leap_flag : (y : ℕ) → eqb (leap_day y) 1 ≡ leapℕ y
-unfolding leap_day
-leap_flag y = go (leapℕ y)
-  where
-    go : (t : Bool) → eqb (cond t 1 0) 1 ≡ t
-    go true = refl
-    go false = refl
+      go : (t : Bool) → eqb r 0 ≡ t → t ≡ leapℕ y
+      go true e = sym (ap (λ l. eqb l 1) (rest_zero (eqb-true r 0 e))) ∙ leap_flag y
+      go false e = sym (ap (λ l. eqb l 1) (rest_left (eqb-false r 0 e))) ∙ leap_flag y
 
 -- the public rule sees the year modulo 400 only
 public_4 : (y : ℕ) → floor_remainder (base_year +ℤ pos y) 4 ≡ y % 4

@@ -6,14 +6,13 @@ use native.Mathlib.Omega.{arith}
 use native.Mathlib.Decide.{dec_lt}
 use native.Mathlib.Nat.{le_refl, le_trans, add-zero, add-suc}
 use native.Mathlib.Numerals.{add-one}
-use mathlib.Core.List.{List, [], ◌∷◌}
 use lib.Dec.{eqb, ltb}
 use lib.IntN.{pos, ◌+ℤ◌}
 use lib.ListN.{get_or, take}
 use mir.Val.{bool_byte}
 use Rattle.calendar.specs.Gregorian.{leap_year, month_lengths, month_length, days_before}
 use Rattle.calendar.specs.Count.{sum}
-use Rattle.calendar.specs.Closed.{base_year, leapℕ, leap_day, month_days, before, from_march}
+use Rattle.calendar.specs.Closed.{base_year, leapℕ, leap_day, month_days, before}
 use Rattle.calendar.proofs.Leap.{leap_public}
 
 -- P holds of 1 to n
@@ -103,16 +102,6 @@ table_entry = each_month (λ m. (get_or days_before (m - 1) 0 ≡ before 0 m) ×
 
 pub table_sum : (m : ℕ) → 1 ≤ m → m ≤ 12 → get_or days_before (m - 1) 0 ≡ sum (take (m - 1) (month_lengths false))
 table_sum m lo hi = (table_entry m lo hi).0 ∙ sym (before_of false m lo hi)
-
--- the table of the days from 1 March to each month, and its rule
-unfoldable pub days_from_march : List ℕ
-days_from_march = 0 ∷ 31 ∷ 61 ∷ 92 ∷ 122 ∷ 153 ∷ 184 ∷ 214 ∷ 245 ∷ 275 ∷ 306 ∷ 337 ∷ []
-
-pub march_rule : (m : ℕ) → 3 ≤ m → m ≤ 14 → (get_or days_from_march (m - 3) 0 ≡ from_march m) × (from_march m ≤ 337)
-unfolding days_from_march
-march_rule m lo hi =
-    subst (λ m. (get_or days_from_march (m - 3) 0 ≡ from_march m) × (from_march m ≤ 337)) (omega arith)
-    (each_month (λ i. (get_or days_from_march (i + 2 - 3) 0 ≡ from_march (i + 2)) × (from_march (i + 2) ≤ 337)) (omega arith) (m - 2) (omega arith) (omega arith))
 
 -- the leap day falls into February
 pub with_leap_day : (l m : ℕ) → 1 ≤ m → m ≤ 12 → month_days 0 m + bool_byte (eqb m 2) * l ≡ month_days l m

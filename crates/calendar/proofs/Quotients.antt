@@ -25,9 +25,6 @@ coded_is n h = ap (λ c. n + 1 - c / 4 + c) (century_product n (omega arith)) �
     sum : (c : ℕ) → c ≤ n + 1 → n + 1 - c / 4 + c ≡ n + c - c / 4 + 1
     sum c l = omega arith
 
-pub regular_small : (n : ℕ) → n < days_end → regular_day n < days_end + 1000
-regular_small n h = omega arith
-
 -- the year from January of day n from March, counted from 1
 pub january_product : (n : ℕ) → n < 31933018 → (n * 23517959 + 1393439081) / 2 ^ 33 ≡ (4 * n + 236) / 1461
 january_product n h = ap (λ x. (x + 1393439081) / 2 ^ 33) (omega arith) ∙ by_shift 4 236 1461 23517959 1393439081 33 31933018 records.january_year n h

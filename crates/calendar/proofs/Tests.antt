@@ -1,19 +1,18 @@
 -- What the tests of a year, a month and a day decide.
 use Prim.Native.Nat.{ℕ}
-use mathlib.Core.Path.{◌≡◌, ap, ◌∙◌}
+use mathlib.Core.Path.{◌≡◌, refl, ap, ◌∙◌}
 use mathlib.Core.Bool.{false, cond}
-use lib.IntN.{ℤ, pos}
-use mir.Syntax.{w64}
-use mir.Val.{SFits}
-use mir.Facts.{to_z-of_z}
+use lib.IntN.{ℤ, pos, nat_abs, ◌+ℤ◌}
 use Rattle.refusal.specs.Outcome.{Outcome, value, refused}
 use Rattle.refusal.proofs.Outcomes.{passes, refuses, not_refused, same_value}
 use Rattle.numbers.specs.Range.{outside}
-use Rattle.numbers.proofs.Machine.{read}
+use Rattle.numbers.proofs.Based as based
 use Rattle.calendar.specs.declared.Date.{Date}
 use Rattle.calendar.specs.Range.{first_year, last_year}
 use Rattle.calendar.specs.Gregorian.{month_length, date_of, ValidDate}
-use Rattle.calendar.specs.Answers.{of_date, days_answer}
+use Rattle.calendar.specs.Answers.{of_date}
+use Rattle.calendar.specs.Checked.{year_answer, month_answer}
+use Rattle.calendar.specs.Closed.{base_year}
 
 -- the day, after year and month
 pub day_decides :
@@ -59,10 +58,27 @@ date_refused year month day g k f =
     refuses (outside first_year last_year year) 1 _ _
     (refuses (outside (pos 1) (pos 12) month) 2 _ _ (refuses (outside (pos 1) (month_length year month) day) 3 _ _ (not_refused _ _)))
 
--- three locals hold the numbers that they were given
-module _ {year month day : ℤ} (p : SFits w64 year) (q : SFits w64 month) (r : SFits w64 day) where
-  pub of_read : {A : Type 0} (f : Date → Outcome A) → of_date (read year) (read month) (read day) f ≡ of_date year month day f
-  of_read f = λ i. of_date (to_z-of_z p i) (to_z-of_z q i) (to_z-of_z r i) f
+-- what the test of a year says of it: its place among the years from base_year on
+pub year_passes : (year : ℤ) (y : ℕ) → value y ≡ year_answer year → (outside first_year last_year year ≡ false) × (base_year +ℤ pos y ≡ year)
+unfolding year_answer
+year_passes year y e =
+    let p = passes (outside first_year last_year year) 1 _ e in
+    (p.0, ap (λ y. base_year +ℤ pos y) (same_value p.1) ∙ based.is base_year first_year last_year refl refl year p.0)
 
-  pub days_read : days_answer (read year) (read month) (read day) ≡ days_answer year month day
-  days_read = λ i. days_answer (to_z-of_z p i) (to_z-of_z q i) (to_z-of_z r i)
+-- and the test of a month of it
+pub month_passes : (month : ℤ) (m : ℕ) → value m ≡ month_answer month → (outside (pos 1) (pos 12) month ≡ false) × (m ≡ nat_abs month)
+unfolding month_answer
+month_passes month m e = let p = passes (outside (pos 1) (pos 12) month) 2 _ e in (p.0, same_value p.1)
+
+-- a date is refused with its year
+pub year_refuses :
+    {A : Type 0} (year month day : ℤ) (f : Date → Outcome A) (k : ℕ) → refused k ≡ year_answer year → refused k ≡ of_date year month day f
+unfolding year_answer of_date
+year_refuses year month day f k = refuses (outside first_year last_year year) 1 _ _ (not_refused _ _)
+
+-- and then with its month
+pub month_refuses :
+    {A : Type 0} (year month day : ℤ) (f : Date → Outcome A) (k : ℕ) → outside first_year last_year year ≡ false → refused k ≡ month_answer month →
+    refused k ≡ of_date year month day f
+unfolding month_answer of_date
+month_refuses year month day f k h e = rw h (refuses (outside (pos 1) (pos 12) month) 2 _ _ (not_refused _ _) e)

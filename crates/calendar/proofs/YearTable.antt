@@ -1,17 +1,20 @@
 -- The table of the days on which the years of a cycle begin, and the date of a day by it.
-use Prim.Native.Nat.{ℕ, zero, suc, ◌+◌, ◌-◌, ◌*◌, ◌/◌, ◌%◌, ◌≤◌, ◌<◌}
-use mathlib.Core.Path.{◌≡◌, refl, sym, ap, ◌∙◌, subst}
+use Prim.Native.Nat.{ℕ, ◌+◌, ◌-◌, ◌*◌, ◌/◌, ◌%◌, ◌≤◌, ◌<◌}
+use mathlib.Core.Path.{◌≡◌, refl, sym, ◌∙◌, subst}
 use mathlib.Core.List.{List}
-use native.Mathlib.Numerals.{add-one}
 use native.Mathlib.Omega.{arith, by_contra}
+use lib.Dec.{leb}
 use lib.ListN.{length, get_or, set}
 use lib.Seq.{get_or-set_same, get_or-set_other}
 use borrow.Author.Count.{below_more}
+use borrow.Author.Tests.{leb-true, leb-false}
+use mathlib.Core.Bool.{true, false}
+use Rattle.std.specs.List.Sorted.{IsNonDecreasingBy, IsPartitionPoint}
+use Rattle.std.proofs.lemmas.List.{get_or_default}
 use Rattle.calendar.specs.Gregorian.{date_after}
 use Rattle.calendar.specs.Closed.{cycle_years, cycle, leap_day, leaps, start, month_days, before, Valid, day_number, public}
-use Rattle.calendar.proofs.Leap.{leap_le}
-use Rattle.calendar.proofs.Months.{before_step, before_first}
-use Rattle.calendar.proofs.Order.{start_step, start_monotone}
+use Rattle.calendar.specs.YearStarts.{Starts}
+use Rattle.calendar.proofs.Order.{start_monotone}
 use Rattle.calendar.proofs.Steps.{start_first, found}
 use Rattle.calendar.proofs.March.{valid_date}
 use Rattle.calendar.proofs.Centuries.{number_again, valid_again}
@@ -39,26 +42,37 @@ filled_more t n s h e f =
     below_more (λ y. get_or (set t n s) y 0 ≡ start y) n (λ y l. get_or-set_other t n y s 0 (λ p. omega arith) ∙ f y l)
     (get_or-set_same t n s 0 h ∙ e)
 
--- no year has more than 366 days
-start_le : (y : ℕ) → start y ≤ 366 * y
-start_le zero = omega (arith, start_zero)
-start_le (suc y) = rw (← add-one y) (omega (arith, start_le y, start_step y, leap_le y))
+-- a full table, in which a day of the cycle is looked up
+module _ (t : List ℕ) (n : length t ≡ 401) (s : Starts t) where
+  entry : (y d : ℕ) → y ≤ cycle_years → get_or t y d ≡ start y
+  entry y d h = get_or_default t y d 0 (omega arith) ∙ s.at y h
 
--- so the year r / 366 has begun by the day r
-pub guess : (r : ℕ) → start (r / 366) ≤ r
-guess r = omega (arith, start_le (r / 366))
+  -- its entries rise
+  pub starts_rise : IsNonDecreasingBy (λ (x : ℕ). x) t
+  starts_rise i j d h l = omega (arith, entry i d (omega arith), entry j d (omega arith), start_monotone i j h)
 
--- a year is not the last of a cycle where the next has begun by a day of that cycle
-pub not_last : (y r : ℕ) → start (y + 1) ≤ r → r < cycle → y + 1 < cycle_years
-not_last y r h l = by_contra _ _ (λ k. omega (arith, start_first, start_monotone cycle_years (y + 1) (omega arith)))
+  -- the year before the first that begins after the day r has that day
+  pub year_found :
+      (r p : ℕ) → r < cycle → IsPartitionPoint (λ (y : ℕ). leb y r ≡ true) (λ y. leb y r ≡ false) t p →
+      (1 ≤ p) × ((p - 1 < cycle_years) × ((start (p - 1) ≤ r) × (r < start (p - 1 + 1))))
+  year_found r p h q = (low, (omega (arith, low, high), (omega (arith, begun (p - 1) (omega (arith, low)) (omega (arith, low, high))), later)))
+    where
+      -- the years before p have begun
+      begun : (y : ℕ) → y < p → y ≤ cycle_years → start y ≤ r
+      begun y l k = omega (arith, leb-true (get_or t y 0) r (q.0 y 0 (omega arith) l), entry y 0 k)
 
--- a month after the day k is not the first, and the month before it ends after that day
-pub month_before : (l m k : ℕ) → 1 ≤ m → k < before l m → (1 ≤ m - 1) × (k < before l (m - 1) + month_days l (m - 1))
-month_before l m k lo h =
-    let e : m - 1 + 1 ≡ m = omega arith in (
-      by_contra _ _ (λ g. let p : m ≡ 1 = omega arith in omega (arith, ap (before l) p, before_first l)),
-      omega (arith, ap (before l) e, before_step l (m - 1)),
-    )
+      -- and those from p on have not
+      not_begun : (y : ℕ) → p ≤ y → y ≤ cycle_years → r < start y
+      not_begun y l k = omega (arith, leb-false (get_or t y 0) r (q.1 y 0 l (omega arith)), entry y 0 k)
+
+      low : 1 ≤ p
+      low = by_contra _ _ (λ k. omega (arith, not_begun 0 (omega arith) (omega arith), start_zero))
+
+      high : p ≤ cycle_years
+      high = by_contra _ _ (λ k. omega (arith, begun cycle_years (omega arith) (omega arith), start_first))
+
+      later : r < start (p - 1 + 1)
+      later = let e : p - 1 + 1 ≡ p = omega (arith, low) in rw e (not_begun p (omega arith) high)
 
 -- the year y of the cycle that has the day n after the first
 abbrev pub year_of_day : (n y : ℕ) → ℕ

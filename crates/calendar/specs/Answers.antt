@@ -1,25 +1,11 @@
 -- The whole answer of each call, over all whole numbers: the refusals of document 01 by their numbers and in its order, then the value.
 use Rattle.std.specs.Prelude.{Bool, cond, ℤ, pos, ◌+ℤ◌}
-use Rattle.refusal.specs.Numbers.{refusal_number}
 use Rattle.refusal.specs.Outcome.{Outcome, value, refused}
 use Rattle.numbers.specs.Range.{outside}
 use Rattle.calendar.specs.Range.{first_year, last_year, first_count, last_count}
 use Rattle.calendar.specs.Gregorian.{leap_year, month_length, date_of}
 use Rattle.calendar.specs.Count.{date_of_count, count_of_date, weekday, day_of_year}
 use Rattle.calendar.specs.declared.Date.{Date}
-use Rattle.calendar.specs.declared.DateAnswer.{DateAnswer}
-use Rattle.calendar.specs.declared.DateAnswer.TheVariants as D
-use Rattle.calendar.specs.declared.FlagAnswer.{FlagAnswer}
-use Rattle.calendar.specs.declared.FlagAnswer.TheVariants as F
-
--- what each case of an answer hands back
-abbrev pub date_outcome : DateAnswer → Outcome Date
-date_outcome (D.Value d) = value d
-date_outcome (D.Refused r) = refused (refusal_number r)
-
-abbrev pub flag_outcome : FlagAnswer → Outcome Bool
-flag_outcome (F.Value b) = value b
-flag_outcome (F.Refused r) = refused (refusal_number r)
 
 -- 1 for a year outside the range
 unfoldable pub leap_answer : (year : ℤ) → Outcome Bool

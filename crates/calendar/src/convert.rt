@@ -3,18 +3,18 @@
 // to_year.
 
 ghost use Rattle.std.specs.Prelude.{◌≡◌, ◌≤◌, ◌+◌};
-ghost use Rattle.calendar.specs.Closed.{cycle, last_day, InRange, day_number};
+ghost use Rattle.calendar.specs.Closed.{cycle, last_day, day_number};
 
+use super::checked_date::CheckedDate;
 use super::products::HUNDREDTH;
 use super::year;
 
 // The day of a date, counted from 1 January of BASE_YEAR: algorithm 4. BASE_YEAR is leap, and its leap day, which y_m / 4 leaves out,
 // makes up for the first day of a month being day 1.
-pub fn days_since_base(y: u64, m: u64, d: u64) -> u64
-    requires { InRange y m d }
-    ensures { (result ≡ day_number y m d) × ((cycle ≤ result) × (result ≤ cycle + last_day)) }
+pub fn days_since_base(date: CheckedDate) -> u64
+    ensures { (result ≡ day_number date.year date.month.number date.day) × ((cycle ≤ result) × (result ≤ cycle + last_day)) }
 {
-    let y_m = y - (m <= 2) as u64; // [399, to_year], from March to February
+    let y_m = date.year - (date.month.number <= 2) as u64; // [399, to_year], from March to February
     let c = (y_m * HUNDREDTH) >> 24; // y_m / 100
-    365 * y + year::days_before(m) + d + (y_m / 4 - c + c / 4)
+    365 * date.year + year::days_before(date.month) + date.day + (y_m / 4 - c + c / 4)
 }

@@ -3,18 +3,18 @@
 
 ghost use Rattle.std.specs.Prelude.{◌≡◌, ◌+◌, ◌-◌, ◌*◌, ◌/◌, ◌%◌, ◌≤◌, ◌<◌};
 ghost use Rattle.calendar.specs.Gregorian.{date_after};
-ghost use Rattle.calendar.specs.Closed.{last_day, days_end, regular_day};
+ghost use Rattle.calendar.specs.Closed.{days_end, regular_day};
 
 use super::base::{BASE_YEAR, FIRST_FROM_MARCH};
 use super::products::{CENTURY, TO_JANUARY, YEAR};
+use super::range_day::RangeDay;
 use crate::Date;
 
-// The date n days after the first.
-pub fn date_after(n: u64) -> Date
-    requires { n ≤ last_day }
-    ensures { result ≡ date_after n }
+// The date of a day.
+pub fn date_of(day: RangeDay) -> Date
+    ensures { result ≡ date_after day.number }
 {
-    let d = regular(n + FIRST_FROM_MARCH);
+    let d = regular(day.number + FIRST_FROM_MARCH);
     let k = day_of_year(d);
     Date {
         year: january_year(d) as i64 + BASE_YEAR,

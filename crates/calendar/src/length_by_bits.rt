@@ -1,30 +1,30 @@
 // The length of a month by the bits of its number: source document 001, "Last day of month". `length_by_match` has the same contract.
 
-ghost use Rattle.std.specs.Prelude.{◌≡◌, ◌≤◌};
-ghost use Rattle.refusal.specs.Outcome.{number_outcome};
+ghost use Rattle.std.specs.Prelude.{◌≡◌, ◌≤◌, cond};
+ghost use Rattle.refusal.specs.Outcome.{outcome};
 ghost use Rattle.calendar.specs.Closed.{leap_day, month_days};
 ghost use Rattle.calendar.specs.Checked.{length_answer};
 
+use super::month::Month;
 use super::year;
-use refusal::{NumberAnswer, Refusal};
+use refusal::Refusal;
 
 // The length of a month of the year y, which is counted from BASE_YEAR.
-pub fn month_length(y: u64, month: i64) -> NumberAnswer
-    ensures { number_outcome result ≡ length_answer (leap_day y) month }
+#[tactic(auto, using(crate::proofs::Lengths::bits_rules))]
+pub fn month_length(y: u64, month: i64) -> Result<i64, Refusal>
+    ensures { outcome result ≡ length_answer (leap_day y) month }
 {
-    if numbers::outside(1, 12, month) {
-        return NumberAnswer::Refused(Refusal::MonthOutOfRange);
-    }
-    NumberAnswer::Value(days_of(year::leap_day(y), month as u64) as i64)
+    let month = Month::new(month)?;
+    Ok(days_of(year::is_leap(y), month) as i64)
 }
 
-// The days of month m of a year that has `leap` leap days.
-fn days_of(leap: u64, m: u64) -> u64
-    requires { (leap ≤ 1) × ((1 ≤ m) × (m ≤ 12)) }
-    ensures { (result ≡ month_days leap m) × (result ≤ 31) }
+// The days of a month, of a leap year or a common one.
+fn days_of(leap: bool, month: Month) -> u64
+    ensures { (result ≡ month_days (cond leap 1 0) month.number) × (result ≤ 31) }
 {
+    let m = month.number;
     if m == 2 {
-        28 + leap
+        28 + leap as u64
     } else {
         30 | (m ^ (m >> 3))
     }

@@ -4,12 +4,13 @@
 
 ghost use Rattle.std.specs.Prelude.{◌≡◌, ◌≤◌};
 ghost use Rattle.calendar.specs.Gregorian.{date_after};
-ghost use Rattle.calendar.specs.Answers.{date_outcome, civil_answer};
-ghost use Rattle.calendar.specs.Closed.{last_day, from_march};
+ghost use Rattle.refusal.specs.Outcome.{outcome};
+ghost use Rattle.calendar.specs.Answers.{civil_answer};
+ghost use Rattle.calendar.specs.Closed.{from_march};
 
 use super::base::{BASE_YEAR, CYCLE, FIRST_FROM_MARCH};
-use super::range::{FIRST_COUNT, LAST_COUNT};
-use crate::{Date, DateAnswer};
+use super::range_day::RangeDay;
+use crate::Date;
 use refusal::Refusal;
 
 const FOUR_CENTURIES: u32 = CYCLE as u32;
@@ -20,22 +21,19 @@ const FIRST: u32 = FIRST_FROM_MARCH as u32;
 const DAYS_FROM_MARCH: [u16; 12] = [0, 31, 61, 92, 122, 153, 184, 214, 245, 275, 306, 337];
 
 // The date of a day count.
-pub fn civil_from_days(days: i64) -> DateAnswer
-    ensures { date_outcome result ≡ civil_answer days }
+#[tactic(auto, using(crate::proofs::Counts::civil_rules))]
+pub fn civil_from_days(days: i64) -> Result<Date, Refusal>
+    ensures { outcome result ≡ civil_answer days }
 {
-    if numbers::outside(FIRST_COUNT, LAST_COUNT, days) {
-        return DateAnswer::Refused(Refusal::OutOfRange);
-    }
-    DateAnswer::Value(date_after(super::days_from_first(days) as u32))
+    Ok(date_of(RangeDay::of_count(days)?))
 }
 
-// The date n days after the first: algorithm 3. Where the paper takes the day of the century, the leap days that three in four
+// The date of a day: algorithm 3. Where the paper takes the day of the century, the leap days that three in four
 // centuries lack are added instead, so that every fourth year is leap, and the year is found as in algorithm 1.
-fn date_after(n: u32) -> Date
-    requires { n ≤ last_day }
-    ensures { result ≡ date_after n }
+fn date_of(day: RangeDay) -> Date
+    ensures { result ≡ date_after day.number }
 {
-    let n_0 = n + FIRST; // [146037, 146037 + last_day]
+    let n_0 = day.number as u32 + FIRST; // [146037, 146037 + last_day]
     let c = (4 * n_0 + 3) / FOUR_CENTURIES; // [3, to_year / 100]
     let regular = n_0 + c - c / 4; // [146040, 1461 * (to_year + 1) / 4]
     let y = (4 * regular + 3) / 1461; // [399, to_year], from March to February

@@ -1,21 +1,19 @@
-use mathlib.Core.Path.{refl}
+use Prim.Native.Nat.{◌+◌}
+use mathlib.Core.Path.{◌≡◌, refl, ap}
 use native.Mathlib.Omega.{arith}
-use Rattle.calendar.specs.Closed.{leap_day}
-use Rattle.calendar.proofs.Months.{year_end}
-use Rattle.calendar.proofs.YearTable.{month_before}
+use Rattle.calendar.specs.Closed.{leap_day, before}
+use Rattle.calendar.proofs.Months.{before_step, before_first, year_end}
 use Rattle.calendar.proofs.audit.month_of.Goals as goal
 
-pub loop-m-init : goal.loop-m-init
-loop-m-init c = ((omega arith, omega arith), omega (arith, year_end (leap_day c.args.y) 12 refl, c.requires))
+pub loop-number-init : goal.loop-number-init
+loop-number-init c = (omega arith, omega (arith, before_step (leap_day c.args.y) 12, year_end (leap_day c.args.y) 12 refl, c.requires))
 
-pub loop-m-preserved : goal.loop-m-preserved
-loop-m-preserved c =
-    let l = c.loop-m in
-    let s = c.before.before.before in
-    let b = month_before (leap_day s.args.y) l.m s.args.k (omega arith) (omega (arith, c.days_before_month.ensures.0)) in
-    ((b.0, omega arith), b.1)
+pub returns-then-days_before_month-k : goal.returns-then-days_before_month-k
+returns-then-days_before_month-k c =
+    (omega (arith, c.days_before_month.ensures.0), omega (arith, before_step (leap_day c.args.y) c.loop-number.number))
 
 pub returns : goal.returns
 returns c =
-    let i = c.loop-m.invariant in
-    (i.0, (omega (arith, c.days_before_month.ensures.0), i.1))
+    let l = leap_day c.args.y in
+    let e : c.loop-number.number ≡ 1 = omega arith in
+    (omega (arith, before_first l), omega (arith, before_step l 1, ap (λ m. before l (m + 1)) e))

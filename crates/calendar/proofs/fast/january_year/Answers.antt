@@ -1,3 +1,4 @@
+-- By the record of the multiplier, which the checker accepts.
 use native.Mathlib.Omega.{arith}
 use Rattle.calendar.proofs.Quotients.{january_product}
 use Rattle.calendar.proofs.fast.january_year.Goals as goal

@@ -4,10 +4,6 @@ use mathlib.Core.Path.{refl}
 use native.Mathlib.Omega.{arith}
 use Rattle.calendar.proofs.year.days_before.Goals as goal
 
-pub overflow_cast-result : goal.overflow_cast-result
-unfolding days_before
-overflow_cast-result c = let r = table_entry c.args.m (omega arith) (omega arith) in record { fits = omega (arith, r.0, r.1) }
-
 pub returns : goal.returns
 unfolding days_before
-returns c = let r = table_entry c.args.m (omega arith) (omega arith) in (refl, omega (arith, r.0, r.1))
+returns c = let r = table_entry c.args.month.number c.args.month.in_year.0 c.args.month.in_year.1 in (refl, omega (arith, r.0, r.1))
