@@ -1,77 +1,72 @@
 -- Parts of a list: what holds of a list holds of its parts, and a list that is filled part by part.
-use Prim.Native.Nat.{ℕ, zero, suc, ◌+◌, ◌-◌, ◌≤◌, ◌<◌}
-use mathlib.Core.Path.{◌≡◌, refl, sym, ap, ◌∙◌}
+use Prim.Native.Nat.{ℕ, suc, ◌+◌, ◌-◌, ◌*◌, ◌/◌, ◌<◌}
+use mathlib.Core.Path.{◌≡◌, refl, sym, ap, ap₂, ◌∙◌}
 use mathlib.Core.Bool.{true, false}
-use mathlib.Core.List.{List, [], ◌∷◌, ◌++◌, map, append_assoc}
+use mathlib.Core.List.{List, [], ◌++◌, map, append-nil}
 use native.Mathlib.Omega.{arith}
+use borrow.Rule.Slice.PartMut.{put_mid}
 use lib.IntN.{ℤ, pos, negsuc}
-use lib.ListN.{length, get_or, take, drop, length-drop, replicate, length-replicate, get_or-replicate, length-map, get_or-map}
-use lib.Seq.{length-take-le, get_or-take, get_or-drop, take_at, drop_at, take-add, drop-drop, paste, ext_get_or}
+use lib.ListN.{length, get_or, set, take, drop, length-drop, drop_of_length-le, replicate, length-replicate, get_or-replicate, length-map, get_or-map}
+use lib.Seq.{get_or-take, get_or-drop, take-add, ext_get_or}
 use lib.Signed.{lt_z}
 use borrow.Author.Tests.{ltb-false}
+use Rattle.std.proofs.lemmas.Grind.{common_steps}
+use Rattle.std.proofs.lemmas.List.{map-append, take-append-drop}
+use Rattle.std.proofs.lemmas.Slice.{take-put_mid}
 use Rattle.numbers.proofs.Bools.{no_both}
 use Rattle.instant.specs.Instant.{day_of}
 use Rattle.instant.specs.Answers.{bad_instant}
 use Rattle.instant.specs.Order.{AllInRange, NeverFalls}
+use Rattle.instant.proofs.Chunks.{chunk, chunk_is, chunk_fits, chunk_long}
 use Rattle.instant.proofs.Laws.{later_day}
 
--- ---- from place i up to place e
+-- ---- the chunk of n instants at place i
 
-module _ (s : List ℤ) (i e : ℕ) (h : i ≤ e) (l : e ≤ length s) where
-  abbrev part : List ℤ
-  part = take (e - i) (drop i s)
+module _ (n : ℕ) (s : List ℤ) (i : ℕ) (l : i < length s / n) where
+  instant_at : (j : ℕ) → j < n → get_or (chunk n s i) j (pos 0) ≡ get_or s (i * n + j) (pos 0)
+  instant_at j m =
+      ap (λ (r : List ℤ). get_or r j (pos 0)) (chunk_is n s i l)
+      ∙ get_or-take n (drop (i * n) s) j (pos 0) m ∙ get_or-drop (i * n) s j (pos 0)
 
-  pub part_length : length part ≡ e - i
-  part_length = length-take-le (e - i) (drop i s) (omega (arith, length-drop i s))
+  pub chunk_in_range : AllInRange s → AllInRange (chunk n s i)
+  chunk_in_range all j m =
+      let below : j < n = omega (arith, chunk_long n s i l) in
+      ap bad_instant (instant_at j below) ∙ all (i * n + j) (omega (arith, chunk_fits n s i l))
 
-  part_at : (j : ℕ) → j < e - i → get_or part j (pos 0) ≡ get_or s (i + j) (pos 0)
-  part_at j m = get_or-take (e - i) (drop i s) j (pos 0) m ∙ get_or-drop i s j (pos 0)
+  pub chunk_never_falls : NeverFalls s → NeverFalls (chunk n s i)
+  chunk_never_falls never j k le m =
+      let below : k < n = omega (arith, chunk_long n s i l) in
+      ap (λ (z : ℤ). lt_z z (get_or (chunk n s i) j (pos 0))) (instant_at k below)
+      ∙ ap (lt_z (get_or s (i * n + k) (pos 0))) (instant_at j (omega arith))
+      ∙ never (i * n + j) (i * n + k) (omega arith) (omega (arith, chunk_fits n s i l))
 
-  pub part_in_range : AllInRange s → AllInRange part
-  part_in_range all j m =
-      let b : j < e - i = omega (arith, part_length) in
-      ap bad_instant (part_at j b) ∙ all (i + j) (omega arith)
+-- ---- a list d that is filled with f of s, in front of place i so far
 
-  pub part_never_falls : NeverFalls s → NeverFalls part
-  part_never_falls never j k le m =
-      let b : k < e - i = omega (arith, part_length) in
-      ap (λ (z : ℤ). lt_z z (get_or part j (pos 0))) (part_at k b) ∙ ap (lt_z (get_or s (i + k) (pos 0))) (part_at j (omega arith))
-      ∙ never (i + j) (i + k) (omega arith) (omega arith)
+-- the chunk there, and all the rest
+pub filled_chunk :
+    (f : ℤ → ℤ) (n : ℕ) (s d v : List ℤ) (i : ℕ) → i < length s / n → length s ≡ length d → take (i * n) d ≡ map f (take (i * n) s) →
+    v ≡ map f (chunk n s i) → take ((i + 1) * n) (put_mid (i * n) ((i + 1) * n - i * n) d v) ≡ map f (take ((i + 1) * n) s)
+filled_chunk f n s d v i l h front part =
+    let long : length v ≡ n = ap length part ∙ length-map (chunk n s i) f ∙ chunk_long n s i l in
+    let fits = chunk_fits n s i l in
+    let on : i * n + n ≡ (i + 1) * n = omega arith in
+    take-put_mid (i * n) ((i + 1) * n - i * n) d v ((i + 1) * n) (omega arith) (omega arith)
+    ∙ ap₂ ◌++◌ front (part ∙ ap (map f) (chunk_is n s i l)) ∙ sym (map-append f (take (i * n) s) (take n (drop (i * n) s)))
+    ∙ ap (map f) (sym (take-add (i * n) n s) ∙ ap (λ (j : ℕ). take j s) on)
 
-module _ (f : ℤ → ℤ) where
-  map_take : (k : ℕ) (s : List ℤ) → map f (take k s) ≡ take k (map f s)
-  map_take zero s = refl
-  map_take (suc k) [] = refl
-  map_take (suc k) (x ∷ s) = ap (λ (r : List ℤ). f x ∷ r) (map_take k s)
+pub filled_rest :
+    (f : ℤ → ℤ) (s d v : List ℤ) (i : ℕ) → length s ≡ length d → take i d ≡ map f (take i s) →
+    v ≡ map f (drop i s) → put_mid i (length d - i) d v ≡ map f s
+filled_rest f s d v i h front rest =
+    let none : drop (length d - i) (drop i d) ≡ [] = drop_of_length-le (drop i d) (omega (arith, length-drop i d)) in
+    ap (λ (r : List ℤ). take i d ++ (v ++ r)) none ∙ ap (λ (r : List ℤ). take i d ++ r) (append-nil v) ∙ ap₂ ◌++◌ front rest
+    ∙ sym (map-append f (take i s) (drop i s)) ∙ ap (map f) (take-append-drop i s)
 
-  map_drop : (i : ℕ) (s : List ℤ) → map f (drop i s) ≡ drop i (map f s)
-  map_drop zero s = refl
-  map_drop (suc i) [] = refl
-  map_drop (suc i) (x ∷ s) = map_drop i s
-
-  map_part : (s : List ℤ) (i k : ℕ) → map f (take k (drop i s)) ≡ take k (drop i (map f s))
-  map_part s i k = map_take k (drop i s) ∙ ap (take k) (map_drop i s)
-
--- ---- a list d that is filled with f of s up to place i, in which the part up to place e is put
-
-pub filled_part :
-    (f : ℤ → ℤ) (s d : List ℤ) → length s ≡ length d → (i e : ℕ) → i ≤ e → e ≤ length s →
-    (front : List ℤ) → front ≡ paste d 0 (map f s) i →
-    take i front ++ (map f (take (e - i) (drop i s)) ++ drop (e - i) (drop i front)) ≡ paste d 0 (map f s) e
-filled_part f s d h i e m l front is =
-    let t = map f s in
-    let a = take i t in
-    let b = drop (0 + i) d in
-    let k = e - i in
-    let n : length a ≡ i = length-take-le i t (omega (arith, length-map s f)) in
-    let on : i + (e - i) ≡ e = omega arith in
-    let behind : 0 + i + (e - i) ≡ 0 + e = omega arith in
-    ap (λ (r : List ℤ). take i r ++ (map f (take k (drop i s)) ++ drop k (drop i r))) is
-    ∙ ap (λ (r : List ℤ). r ++ (map f (take k (drop i s)) ++ drop k (drop i (a ++ b)))) (take_at a b i n)
-    ∙ ap (λ (r : List ℤ). a ++ (map f (take k (drop i s)) ++ drop k r)) (drop_at a b i n)
-    ∙ ap (λ (r : List ℤ). a ++ (r ++ drop k b)) (map_part f s i k) ∙ sym (append_assoc a (take k (drop i t)) (drop k b))
-    ∙ ap (λ (r : List ℤ). r ++ drop k b) (sym (take-add i k t) ∙ ap (λ (j : ℕ). take j t) on)
-    ∙ ap (λ (r : List ℤ). take e t ++ r) (drop-drop k (0 + i) d ∙ ap (λ (j : ℕ). drop j d) behind)
+-- one more of f of s is put at the end of what is filled
+pub filled_more :
+    (f : ℤ → ℤ) (s d : List ℤ) (i : ℕ) (v : ℤ) → i < length s → i < length d → take i d ≡ map f (take i s) → v ≡ f (get_or s i (pos 0)) →
+    take (i + 1) (set d i v) ≡ map f (take (i + 1) s)
+filled_more f s d i v h k e w = grind (arith, common_steps)
 
 -- ---- days that never fall, the first and the last of which are the same
 

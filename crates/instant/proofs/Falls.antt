@@ -4,27 +4,14 @@ use mathlib.Core.Path.{◌≡◌, refl, sym, ap, ◌∙◌}
 use mathlib.Core.Bool.{Bool, true, false, cond}
 use mathlib.Core.List.{List, [], ◌∷◌}
 use native.Mathlib.Nat.{add-zero, add-suc}
-use native.Mathlib.Numerals.{add-one}
 use native.Mathlib.Omega.{arith}
 use native.Mathlib.Decide.{dec_lt}
 use lib.IntN.{ℤ, pos}
-use lib.ListN.{length, get_or, drop, length-drop}
-use lib.Seq.{drop-cons}
+use lib.ListN.{length, get_or}
 use lib.Signed.{lt_z}
-use mir.Facts.{to_z-of_z}
-use mir.Syntax.{w64}
-use mir.Val.{SFits}
 use Rattle.numbers.proofs.Integers.{not_below_itself, not_below_trans}
-use Rattle.numbers.proofs.Machine.{read}
 use Rattle.instant.specs.Answers.{first_fall}
 use Rattle.instant.specs.Order.{FallsAt, FirstFallAt, NeverFalls}
-
--- what a comparison of locals says of their numbers
-pub compared : {a : ℤ} (b : ℤ) → SFits w64 a → {t : Bool} → lt_z (read a) b ≡ t → lt_z a b ≡ t
-compared b f h = ap (λ (z : ℤ). lt_z z b) (sym (to_z-of_z f)) ∙ h
-
-pub both_compared : {a b : ℤ} → SFits w64 a → SFits w64 b → {t : Bool} → lt_z (read a) (read b) ≡ t → lt_z a b ≡ t
-both_compared {a} {b} f g h = ap (lt_z a) (sym (to_z-of_z g)) ∙ compared (read b) f h
 
 -- ---- the first fall
 
@@ -37,35 +24,6 @@ fall_le (x ∷ (y ∷ s)) = go (lt_z y x) (fall_le (y ∷ s))
     go : (t : Bool) → first_fall (y ∷ s) ≤ suc (length s) → cond t 1 (suc (first_fall (y ∷ s))) ≤ suc (suc (length s))
     go true h = omega arith
     go false h = omega arith
-
--- at place i of a list
-module _ (s : List ℤ) (i : ℕ) where
-  pub fall_end : i ≤ length s → length s ≤ i + 1 → i + first_fall (drop i s) ≡ length s
-  unfolding first_fall
-  fall_end h k = go (drop i s) (length-drop i s)
-    where
-      go : (r : List ℤ) → length r ≡ length s - i → i + first_fall r ≡ length s
-      go [] e = omega arith
-      go (x ∷ []) e = omega arith
-      go (x ∷ (y ∷ r)) e = absurd (omega arith)
-
-  module _ (l : i + 1 < length s) where
-    two : drop i s ≡ get_or s i (pos 0) ∷ (get_or s (i + 1) (pos 0) ∷ drop (suc (i + 1)) s)
-    two =
-        drop-cons s i (pos 0) (omega arith)
-        ∙ ap (λ (r : List ℤ). get_or s i (pos 0) ∷ r) (ap (λ (j : ℕ). drop j s) (sym (add-one i)) ∙ drop-cons s (i + 1) (pos 0) l)
-
-    at_place : first_fall (drop i s) ≡ cond (lt_z (get_or s (i + 1) (pos 0)) (get_or s i (pos 0))) 1 (suc (first_fall (drop (i + 1) s)))
-    unfolding first_fall
-    at_place =
-        ap first_fall two
-        ∙ ap (λ (r : List ℤ). cond (lt_z (get_or s (i + 1) (pos 0)) (get_or s i (pos 0))) 1 (suc (first_fall r))) (sym (drop-cons s (i + 1) (pos 0) l))
-
-    pub fall_here : lt_z (get_or s (i + 1) (pos 0)) (get_or s i (pos 0)) ≡ true → first_fall (drop i s) ≡ 1
-    fall_here h = at_place ∙ ap (λ t. cond t 1 (suc (first_fall (drop (i + 1) s)))) h
-
-    pub fall_later : lt_z (get_or s (i + 1) (pos 0)) (get_or s i (pos 0)) ≡ false → first_fall (drop i s) ≡ suc (first_fall (drop (i + 1) s))
-    fall_later h = at_place ∙ ap (λ t. cond t 1 (suc (first_fall (drop (i + 1) s)))) h
 
 -- ---- the first fall is the least place that falls
 

@@ -1,6 +1,6 @@
 -- What the tests of the fields decide.
 use Prim.Native.Nat.{ℕ}
-use mathlib.Core.Path.{◌≡◌, refl, sym, ap, ap₂, ◌∙◌, subst}
+use mathlib.Core.Path.{◌≡◌, refl, sym, ap, ◌∙◌, subst}
 use mathlib.Core.Bool.{Bool, true, false, cond}
 use lib.IntN.{ℤ, pos, ◌+ℤ◌, ◌*ℤ◌}
 use mir.Syntax.{w64}
@@ -11,7 +11,7 @@ use Rattle.numbers.specs.Range.{outside}
 use Rattle.numbers.proofs.Machine.{read}
 use Rattle.refusal.proofs.Outcomes.{clash, passes, refuses, not_refused, same_value}
 use Rattle.calendar.specs.declared.Date.{Date}
-use Rattle.calendar.specs.Range.{first_year, last_year, first_count, last_count}
+use Rattle.calendar.specs.Range.{first_year, last_year}
 use Rattle.calendar.specs.Gregorian.{month_length, date_of}
 use Rattle.calendar.specs.Count.{count_of_date}
 use Rattle.calendar.specs.Answers.{of_date, days_answer}
@@ -41,9 +41,10 @@ module _ (hour minute second fraction : ℤ) where
 
   -- what the two parts make of the whole
   module _ (year month day : ℤ) where
-    pub date_decided : (k : ℕ) → refused k ≡ days_answer year month day → refused k ≡ join_answer year month day hour minute second fraction
+    pub join_refuses_date :
+        (k : ℕ) → refused k ≡ days_answer year month day → refused k ≡ join_answer year month day hour minute second fraction
     unfolding days_answer join_answer
-    date_decided k e = date_refused year month day count_of_date k _ e
+    join_refuses_date k e = date_refused year month day count_of_date k _ e
 
     module _ (count : ℤ) (e : value count ≡ days_answer year month day) where
       on_date :
@@ -55,45 +56,34 @@ module _ (hour minute second fraction : ℤ) where
           ∙ ap (λ (z : ℤ). cond (bad_time hour minute second fraction) (refused 5) (value (z *ℤ pos per_day +ℤ time_of_fields hour minute second fraction)))
           (sym (accepted_is year month day count_of_date count e))
 
-      pub time_decided : (k : ℕ) → refused k ≡ time_answer hour minute second fraction → refused k ≡ join_answer year month day hour minute second fraction
-      time_decided k f = time_refused _ k f ∙ sym on_date
+      pub join_refuses_time :
+          (k : ℕ) → refused k ≡ time_answer hour minute second fraction →
+          refused k ≡ join_answer year month day hour minute second fraction
+      join_refuses_time k f = time_refused _ k f ∙ sym on_date
 
       pub joined :
           bad_time hour minute second fraction ≡ false →
           join_answer year month day hour minute second fraction ≡ value (count *ℤ pos per_day +ℤ time_of_fields hour minute second fraction)
       joined h = on_date ∙ ap (λ t. cond t (refused 5) (value (count *ℤ pos per_day +ℤ time_of_fields hour minute second fraction))) h
 
--- an accepted date and an accepted time, in locals
-pub record Both (year month day hour minute second fraction count time : ℤ) : Type 0 where
-  pub days : value count ≡ days_answer year month day
-  pub time_told : value time ≡ time_answer hour minute second fraction
-  pub count_fits : SFits w64 count
-  pub time_fits : SFits w64 time
+-- what the product and the sum of an accepted date and an accepted time ask, and what they are
+module _ (year month day count : ℤ) (e : value count ≡ days_answer year month day) where
+  pub midnight_of_date_fits : SFits w64 (count *ℤ pos per_day)
+  midnight_of_date_fits = midnight_fits count (days_inside year month day count e)
 
--- what the product and the sum ask, and what they are
-module _ {year month day hour minute second fraction count time : ℤ} (b : Both year month day hour minute second fraction count time) where
-  not_bad : bad_time hour minute second fraction ≡ false
-  not_bad = (time_accepted hour minute second fraction time b.time_told).0
+  module _ (hour minute second fraction time : ℤ) (t : value time ≡ time_answer hour minute second fraction) where
+    pub join_fits : SFits w64 (count *ℤ pos per_day +ℤ time)
+    join_fits =
+        let a = time_accepted hour minute second fraction time t in
+        let n = natural hour minute second fraction a.0 in
+        subst (λ (y : ℤ). SFits w64 (count *ℤ pos per_day +ℤ y)) (sym (a.1 ∙ time_is hour minute second fraction n))
+        (instant_fits count (days_inside year month day count e) (timeℕ hour minute second fraction)
+        (time_small hour minute second fraction n))
 
-  in_range_lem : outside first_count last_count count ≡ false
-  in_range_lem = days_inside year month day count b.days
-
-  pub multiplies : SFits w64 (read count *ℤ pos per_day)
-  multiplies = subst (λ (y : ℤ). SFits w64 (y *ℤ pos per_day)) (sym (to_z-of_z b.count_fits)) (midnight_fits count in_range_lem)
-
-  sum_is : read (read count *ℤ pos per_day) +ℤ read time ≡ count *ℤ pos per_day +ℤ time_of_fields hour minute second fraction
-  sum_is =
-      ap₂ ◌+ℤ◌ (to_z-of_z multiplies ∙ ap (λ (y : ℤ). y *ℤ pos per_day) (to_z-of_z b.count_fits))
-      (to_z-of_z b.time_fits ∙ (time_accepted hour minute second fraction time b.time_told).1)
-
-  pub adds : SFits w64 (read (read count *ℤ pos per_day) +ℤ read time)
-  adds =
-      let t = natural hour minute second fraction not_bad in
-      subst (SFits w64) (sym (sum_is ∙ ap (λ (y : ℤ). count *ℤ pos per_day +ℤ y) (time_is hour minute second fraction t)))
-      (instant_fits count in_range_lem (timeℕ hour minute second fraction) (time_small hour minute second fraction t))
-
-  pub answers : value (read (read (read count *ℤ pos per_day) +ℤ read time)) ≡ join_answer year month day hour minute second fraction
-  answers = ap value (to_z-of_z adds ∙ sum_is) ∙ sym (joined hour minute second fraction year month day count b.days not_bad)
+    pub join_accepts : value (count *ℤ pos per_day +ℤ time) ≡ join_answer year month day hour minute second fraction
+    join_accepts =
+        let a = time_accepted hour minute second fraction time t in
+        ap (λ (y : ℤ). value (count *ℤ pos per_day +ℤ y)) a.1 ∙ sym (joined hour minute second fraction year month day count e a.0)
 
 -- accepted fields: the date has a count, and the time of day is in its limits
 pub record Accepted (year month day hour minute second fraction instant : ℤ) : Type 0 where

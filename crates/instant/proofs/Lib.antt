@@ -1,3 +1,5 @@
+pub mod Neighbours
+pub mod Chunks
 pub mod Ranges
 pub mod Times
 pub mod Joined

@@ -1,14 +1,11 @@
--- The first bad instant of a list, what the tests of an index decide, and a list filled from the front.
-use Prim.Native.Nat.{ℕ, zero, suc, ◌+◌, ◌≤◌, ◌<◌}
-use mathlib.Core.Path.{◌≡◌, refl, sym, ap, ap₂, ◌∙◌}
+-- The first bad instant of a list, and what the tests of an index decide.
+use Prim.Native.Nat.{ℕ, zero, suc, ◌≤◌, ◌<◌}
+use mathlib.Core.Path.{◌≡◌, refl, ap, ap₂}
 use mathlib.Core.Bool.{Bool, true, false, cond, beq}
-use mathlib.Core.List.{List, [], ◌∷◌, ◌++◌, map, append-nil}
-use native.Mathlib.Nat.{zero-add}
-use native.Mathlib.Numerals.{add-one}
+use mathlib.Core.List.{List, [], ◌∷◌, map}
 use native.Mathlib.Omega.{arith}
 use lib.IntN.{ℤ, pos}
-use lib.ListN.{length, get_or, take, set, drop_of_length-le}
-use lib.Seq.{paste, paste-suc, take_all}
+use lib.ListN.{length, get_or}
 use borrow.Author.Tests.{eq-eqb, ne_eqb, lt-ltb, le-ltb}
 use Rattle.refusal.specs.Outcome.{Outcome, value, refused, refused_at, after_call}
 use Rattle.numbers.specs.Range.{first_place}
@@ -97,14 +94,3 @@ module _ (instants days : List ℤ) where
   pub held : (o : Outcome ℕ) → index_days_answer instants days ≡ o → index_days instants days ≡ after_call o (λ count. map day_of instants) days
   unfolding index_days
   held o e = ap (λ o. after_call o (λ count. map day_of instants) days) e
-
--- a list d that is filled with t from the front
-module _ (t d : List ℤ) (h : length t ≡ length d) where
-  pub filled_one : (i : ℕ) (v z : ℤ) → i < length d → v ≡ get_or t i z → set (paste d 0 t i) i v ≡ paste d 0 t (i + 1)
-  filled_one i v z l e =
-      ap (λ (v : ℤ). set (paste d 0 t i) i v) e ∙ ap (λ (j : ℕ). set (paste d 0 t i) j (get_or t i z)) (sym (zero-add i))
-      ∙ paste-suc d 0 t i z (omega arith) (omega arith) ∙ ap (paste d 0 t) (sym (add-one i))
-
-  pub filled : (i : ℕ) → length d ≤ i → paste d 0 t i ≡ t
-  filled i l =
-      ap (λ (r : List ℤ). take i t ++ r) (drop_of_length-le d {i = 0 + i} (omega arith)) ∙ append-nil (take i t) ∙ take_all i t (omega arith)

@@ -1,6 +1,6 @@
 -- Instants of the range have days of the calendar's range, and the other way round.
 use Prim.Native.Nat.{ℕ, ◌+◌, ◌-◌, ◌*◌, ◌<◌}
-use mathlib.Core.Path.{◌≡◌, refl, sym, ap, ◌∙◌, subst}
+use mathlib.Core.Path.{◌≡◌, refl, sym, ap, ap₂, ◌∙◌, subst}
 use mathlib.Core.Bool.{false, cond}
 use native.Mathlib.Omega.{arith}
 use lib.Dec.{lit<}
@@ -9,17 +9,20 @@ use lib.Signed.{lt_z}
 use mir.Syntax.{w32, w64}
 use mir.Val.{SFits}
 use Rattle.refusal.specs.Outcome.{value, refused}
+use Rattle.refusal.proofs.Outcomes.{clash, same_value}
 use Rattle.numbers.specs.Range.{outside, since}
 use Rattle.numbers.proofs.Between.{fits_between}
 use Rattle.numbers.proofs.Floor.{remainder_below}
 use Rattle.numbers.proofs.Integers.{outside_no, outside_as, add_since, since_le, inside}
 use Rattle.numbers.proofs.Quotients.{quotient_below, mul_add}
+use Rattle.calendar.specs.declared.Date.{Date}
 use Rattle.calendar.specs.Range.{first_count, last_count}
 use Rattle.calendar.specs.Count.{date_of_count}
 use Rattle.calendar.specs.Answers.{civil_answer}
 use Rattle.instant.specs.Units.{per_day, first_instant, last_instant}
-use Rattle.instant.specs.Instant.{day_of, time_of}
-use Rattle.instant.specs.Answers.{bad_instant}
+use Rattle.instant.specs.Instant.{day_of, time_of, fields_at, fields_of}
+use Rattle.instant.specs.declared.Fields.{Fields}
+use Rattle.instant.specs.Answers.{bad_instant, split_answer}
 
 -- the instants of the days first..last
 pub instants_of_days :
@@ -45,6 +48,23 @@ time_below instant = remainder_below instant per_day (lit< tt)
 pub dated : (z : ℤ) → outside first_count last_count z ≡ false → civil_answer z ≡ value (date_of_count z)
 unfolding civil_answer
 dated z h = ap (λ t. cond t (refused 4) (value (date_of_count z))) h
+
+-- the day d of an instant in the range is not refused
+pub split_refuses :
+    (instant d : ℤ) (k : ℕ) → bad_instant instant ≡ false → d ≡ day_of instant → refused k ≡ civil_answer d → refused k ≡ split_answer instant
+split_refuses instant d k h e r = clash (cc (r ∙ dated d (rw e (day_inside instant h))))
+
+-- and its date and its time of day make the fields
+pub split_accepts :
+    (instant d : ℤ) (date : Date) (t : ℕ) (f : Fields) → bad_instant instant ≡ false → d ≡ day_of instant → value date ≡ civil_answer d →
+    t ≡ time_of instant → f ≡ fields_at date t → value f ≡ split_answer instant
+unfolding split_answer fields_of
+split_accepts instant d date t f h e a u g =
+    let same : value date ≡ value (date_of_count (day_of instant)) = a ∙ dated d (rw e (day_inside instant h))
+    ∙ ap (λ z. value (date_of_count z)) e in
+    rw h (ap value (g ∙ ap₂ fields_at (same_value same) u))
+
+pub ruleset splits = (split_refuses, split_accepts)
 
 module _ (z : ℤ) (h : outside first_count last_count z ≡ false) where
   -- a count in the range and a time of day

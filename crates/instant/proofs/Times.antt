@@ -1,9 +1,11 @@
 -- The time of day and its fields, in natural numbers.
 use Prim.Native.Nat.{ℕ, ◌+◌, ◌-◌, ◌*◌, ◌/◌, ◌%◌, ◌<◌}
-use mathlib.Core.Path.{◌≡◌, sym, ap, ap₂, ◌∙◌}
+use mathlib.Core.Path.{◌≡◌, sym, ap, ap₂, ◌∙◌, subst}
 use mathlib.Core.Bool.{false, ◌||◌}
 use native.Mathlib.Omega.{arith}
-use lib.IntN.{ℤ, pos, nat_abs}
+use lib.IntN.{ℤ, pos, nat_abs, ◌+ℤ◌, ◌*ℤ◌}
+use mir.Syntax.{w64}
+use mir.Val.{SFits}
 use Rattle.numbers.specs.Range.{outside, Within}
 use Rattle.numbers.proofs.Between.{natural_within, inside_pos}
 use Rattle.numbers.proofs.Bools.{or_no}
@@ -58,6 +60,31 @@ module _ (hour minute second fraction : ℤ) where
         let r : pos (timeℕ % per_minute / per_second) ≡ second = ap pos (omega arith) ∙ sym t.second_within.is in
         let u : pos (timeℕ % per_second) ≡ fraction = ap pos (omega arith) ∙ sym t.fraction_within.is in
         λ i. fields_with d.year d.month d.day (p i) (q i) (r i) (u i)
+
+-- the products and the sums that make a tested time fit
+module _ {hour minute second fraction : ℤ} (t : NaturalTime hour minute second fraction) where
+  pub hours_fit : SFits w64 (hour *ℤ pos per_hour)
+  hours_fit = rw t.hour_within.is (record { sfits = omega (arith, t.hour_within.high) })
+
+  pub minutes_fit : SFits w64 (minute *ℤ pos per_minute)
+  minutes_fit = rw t.minute_within.is (record { sfits = omega (arith, t.minute_within.high) })
+
+  pub seconds_fit : SFits w64 (second *ℤ pos per_second)
+  seconds_fit = rw t.second_within.is (record { sfits = omega (arith, t.second_within.high) })
+
+  pub to_minutes_fits : SFits w64 (hour *ℤ pos per_hour +ℤ minute *ℤ pos per_minute)
+  to_minutes_fits =
+      rw (t.hour_within.is, t.minute_within.is) (record { sfits = omega (arith, t.hour_within.high, t.minute_within.high) })
+
+  pub to_seconds_fits : SFits w64 (hour *ℤ pos per_hour +ℤ minute *ℤ pos per_minute +ℤ second *ℤ pos per_second)
+  to_seconds_fits =
+      rw (t.hour_within.is, t.minute_within.is, t.second_within.is)
+      (record { sfits = omega (arith, t.hour_within.high, t.minute_within.high, t.second_within.high) })
+
+  pub time_fits : SFits w64 (time_of_fields hour minute second fraction)
+  time_fits =
+      subst (SFits w64) (sym (time_is hour minute second fraction t))
+      (record { sfits = omega (arith, time_small hour minute second fraction t) })
 
 -- the fields of a time of day are within their limits, and make that time
 pub fields_of_time :

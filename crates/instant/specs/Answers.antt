@@ -2,27 +2,12 @@
 -- the index, of document 02, request Six; then the value.
 use Rattle.std.specs.Prelude.{ℕ, suc, ◌-◌, Bool, cond, not, ◌||◌, List, [], ◌∷◌, map, eqb, ltb, ℤ, pos, length}
 use Rattle.std.specs.Int.Signed.{lt_z}
-use Rattle.refusal.specs.Numbers.{refusal_number}
 use Rattle.refusal.specs.Outcome.{Outcome, value, refused, refused_at, after_call}
 use Rattle.numbers.specs.Range.{outside}
 use Rattle.calendar.specs.Answers.{of_date}
 use Rattle.instant.specs.Units.{per_second, first_instant, last_instant}
 use Rattle.instant.specs.Instant.{day_of, fields_of, time_of_fields, instant_at}
 use Rattle.instant.specs.declared.Fields.{Fields}
-use Rattle.instant.specs.declared.FieldsAnswer.{FieldsAnswer}
-use Rattle.instant.specs.declared.FieldsAnswer.TheVariants as F
-use Rattle.instant.specs.declared.IndexAnswer.{IndexAnswer}
-use Rattle.instant.specs.declared.IndexAnswer.TheVariants as I
-
--- what each case of an answer hands back
-abbrev pub fields_outcome : FieldsAnswer → Outcome Fields
-fields_outcome (F.Value f) = value f
-fields_outcome (F.Refused r) = refused (refusal_number r)
-
-abbrev pub index_outcome : IndexAnswer → Outcome ℕ
-index_outcome (I.Written n) = value n
-index_outcome (I.Refused r) = refused (refusal_number r)
-index_outcome (I.RefusedAt r place) = refused_at (refusal_number r) place
 
 -- an instant outside the range
 abbrev pub bad_instant : (instant : ℤ) → Bool

@@ -1,5 +1,5 @@
 -- What tested fields of a time of day are, and a tested index, for proofs and private contracts only.
-use Rattle.std.specs.Prelude.{Bool, false, cond, ◌||◌, List, [], ◌∷◌, ◌++◌, ℤ}
+use Rattle.std.specs.Prelude.{ℕ, ltb, length, Option, Some, None, Bool, false, cond, ◌||◌, List, [], ◌∷◌, ◌++◌, ℤ}
 use Rattle.std.specs.Int.Signed.{lt_z}
 use Rattle.refusal.specs.Outcome.{Outcome, value, refused}
 use Rattle.instant.specs.Units.{first_instant, last_instant}
@@ -18,3 +18,7 @@ falls_from before (instant ∷ instants) = lt_z instant before || falls_from ins
 -- in front of the list and the last behind it
 unfoldable pub faulty : (instants : List ℤ) → Bool
 faulty instants = falls_from first_instant (instants ++ last_instant ∷ [])
+
+-- a place in a list, which has none at its length
+abbrev pub place_in : List ℤ → (place : ℕ) → Option ℕ
+place_in s place = cond (ltb place (length s)) (Some place) None

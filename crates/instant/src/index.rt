@@ -1,136 +1,112 @@
 // A recording index: its tests, the places of what they find, and its days.
 
-ghost use Rattle.std.specs.Prelude.{◌≡◌, map, [], ◌∷◌, ◌++◌, length, replicate};
+ghost use Rattle.std.specs.Prelude.{◌≡◌, map, [], ◌∷◌, ◌++◌, length};
 ghost use Rattle.instant.specs.Units.{last_instant};
 ghost use Rattle.instant.specs.Instant.{day_of};
 ghost use Rattle.instant.specs.Answers.{first_bad, first_fall};
 ghost use Rattle.instant.specs.Order.{AllInRange, NeverFalls};
-ghost use Rattle.instant.specs.Checked.{falls_from, faulty};
+ghost use Rattle.instant.specs.Checked.{falls_from, faulty, place_in};
 
 use super::floored;
 use super::units::{FIRST_INSTANT, LAST_INSTANT};
 
 // Whether an instant lies outside the range or is smaller than the one before it. With the range's first instant in front of the list
 // and its last behind it, both are one question: whether a number is smaller than the one before it.
+#[tactic(auto, using(crate::proofs::Faults::falls_block), unfolding(crate::specs::Checked::faulty))]
 pub fn is_faulty(instants: &[i64]) -> bool
     ensures { result ≡ faulty instants.now }
 {
-    let count = instants.len();
+    let (blocks, rest) = instants.as_chunks::<8>();
     let mut before = FIRST_INSTANT;
-    let mut i = 0;
-    while count - i >= 8 {
-        let end = i + 8;
-        if eight_fall(before, &instants[i..end]) {
+    for block in blocks {
+        if eight_fall(before, block) {
             return true;
         }
-        before = instants[end - 1];
-        i = end;
+        before = block[7];
     }
-    falls_to_last(before, &instants[i..])
+    falls_to_last(before, rest)
 }
 
-// Whether one of eight instants that go on from `before` is smaller than the one before it.
-fn eight_fall(before: i64, instants: &[i64]) -> bool
-    requires { length instants.now ≡ 8 }
-    ensures { result ≡ falls_from before instants.now }
+// Whether one of eight instants that go on from `before` is smaller than the one before it. All eight are compared, without a branch.
+#[tactic(auto, using(crate::proofs::Faults::falls_next, crate::proofs::Faults::falls_none))]
+fn eight_fall(before: i64, block: &[i64; 8]) -> bool
+    ensures { result ≡ falls_from before block.now }
 {
-    (instants[0] < before)
-        | (instants[1] < instants[0])
-        | (instants[2] < instants[1])
-        | (instants[3] < instants[2])
-        | (instants[4] < instants[3])
-        | (instants[5] < instants[4])
-        | (instants[6] < instants[5])
-        | (instants[7] < instants[6])
+    let mut before = before;
+    let mut falls = false;
+    for &instant in block {
+        falls |= instant < before;
+        before = instant;
+    }
+    falls
 }
 
 // Whether one of the instants that go on from `before`, or then the last instant of the range, is smaller than the one before it.
+#[tactic(auto, using(crate::proofs::Faults::falls_one, crate::proofs::Faults::falls_end))]
 fn falls_to_last(before: i64, instants: &[i64]) -> bool
     ensures { result ≡ falls_from before (instants.now ++ last_instant ∷ []) }
 {
     let mut before = before;
-    let mut i = 0;
-    while i < instants.len() {
-        if instants[i] < before {
+    for &instant in instants {
+        if instant < before {
             return true;
         }
-        before = instants[i];
-        i += 1;
+        before = instant;
     }
     LAST_INSTANT < before
 }
 
-// The place of the first instant outside the range, or the length where there is none.
-pub fn first_bad(instants: &[i64]) -> usize
-    ensures { result ≡ first_bad instants.now }
+// The place of the first instant outside the range.
+#[tactic(auto, using(crate::proofs::Lists::bad_place))]
+pub fn first_bad(instants: &[i64]) -> Option<usize>
+    ensures { result ≡ place_in instants.now (first_bad instants.now) }
 {
     numbers::first_place(FIRST_INSTANT, LAST_INSTANT, true, instants)
 }
 
-// The place of the first instant smaller than the one before it, or the length where there is none.
-pub fn first_fall(instants: &[i64]) -> usize
-    ensures { result ≡ first_fall instants.now }
+// The place of the first instant smaller than the one before it.
+pub fn first_fall(instants: &[i64]) -> Option<usize>
+    ensures { result ≡ place_in instants.now (first_fall instants.now) }
 {
-    let count = instants.len();
-    let mut earlier = 0;
-    while count - earlier >= 2 {
-        let later = earlier + 1;
-        if instants[later] < instants[earlier] {
-            return later;
-        }
-        earlier = later;
-    }
-    count
+    let earlier = instants.windows(2).position(|pair| pair[1] < pair[0])?;
+    Some(earlier + 1)
 }
 
-// The day count of each instant, sixteen at a time.
+// The day count of each instant, sixteen at a time. What is required of the lists is required of each block and of the rest too: a type
+// that holds it would be built anew for each of them, by the same proofs.
+#[tactic(auto, using(crate::proofs::Blocks::filled_chunk, crate::proofs::Blocks::filled_rest))]
 pub fn fill_days(instants: &[i64], days: &mut [i32])
     requires { (length instants.now ≡ length days.old) × (AllInRange instants.now × NeverFalls instants.now) }
     ensures { days.new ≡ map day_of instants.now }
 {
-    let count = instants.len();
-    let mut i = 0;
-    while count - i >= 16 {
-        let end = i + 16;
-        fill_block(&instants[i..end], &mut days[i..end]);
-        i = end;
+    let (blocks, rest) = instants.as_chunks::<16>();
+    for (i, block) in blocks.iter().enumerate() {
+        fill_block(block, &mut days[i * 16..(i + 1) * 16]);
     }
-    fill_each(&instants[i..], &mut days[i..]);
+    fill_each(rest, &mut days[blocks.len() * 16..]);
 }
 
 // The day count of each of sixteen instants: where the first and the last are the same, there is no other.
-fn fill_block(instants: &[i64], days: &mut [i32])
-    requires sixteen { length instants.now ≡ 16 }
-    requires fits { (length instants.now ≡ length days.old) × (AllInRange instants.now × NeverFalls instants.now) }
+#[tactic(auto, using(crate::proofs::Ranges::day_fits, crate::proofs::Blocks::same_days))]
+fn fill_block(instants: &[i64; 16], days: &mut [i32])
+    requires { (length instants.now ≡ length days.old) × (AllInRange instants.now × NeverFalls instants.now) }
     ensures { days.new ≡ map day_of instants.now }
 {
     let first = floored::day(instants[0]);
     if first == floored::day(instants[15]) {
-        fill_same(first as i32, days);
+        days.fill(first as i32);
     } else {
         fill_each(instants, days);
     }
 }
 
-// The same day everywhere.
-fn fill_same(day: i32, days: &mut [i32])
-    ensures { days.new ≡ replicate (length days.old) day }
-{
-    let mut written = 0;
-    while written < days.len() {
-        days[written] = day;
-        written += 1;
-    }
-}
-
 // The day count of each instant, one by one.
+#[tactic(auto, using(crate::proofs::Ranges::day_fits, crate::proofs::Blocks::filled_more))]
 fn fill_each(instants: &[i64], days: &mut [i32])
     requires { (length instants.now ≡ length days.old) × AllInRange instants.now }
     ensures { days.new ≡ map day_of instants.now }
 {
-    let mut written = 0;
-    while written < instants.len() {
-        days[written] = floored::day(instants[written]) as i32;
-        written += 1;
+    for (i, &instant) in instants.iter().enumerate() {
+        days[i] = floored::day(instant) as i32;
     }
 }

@@ -1,32 +1,27 @@
-use Rattle.instant.proofs.Falls.{both_compared, fall_end, fall_here, fall_later}
-use mir.Val.{SFits}
-use mir.Syntax.{w64}
-use lib.IntN.{pos}
-use lib.ListN.{get_or}
+use Rattle.std.proofs.Common.{◌≡◌, rules}
+use Rattle.std.specs.Option.{option_map}
+use mathlib.Core.Path.{ap, sym, ◌∙◌}
 use Prim.Native.Nat.{◌+◌}
-use native.Mathlib.Omega.{arith}
-use borrow.Author.Rules.{rules}
+use borrow.Author.Tests.{tests}
+use Rattle.std.proofs.lemmas.Iterator.Search.{position_from_yields_List}
+use Rattle.instant.specs.Answers.{first_fall}
+use Rattle.instant.specs.Checked.{place_in}
+use Rattle.instant.proofs.Neighbours.{windows_yield, fall_in, place_of_fall}
 use Rattle.instant.proofs.index.first_fall.Goals as goal
+use Rattle.instant.proofs.index.first_fall.Goals.{After-position}
 
-pub loop-earlier-init : goal.loop-earlier-init
-loop-earlier-init c = (omega arith, omega arith)
-
-pub returns-then-instants-later : goal.returns-then-instants-later
-returns-then-instants-later c = let l = c.loop-earlier in
+found : (c : After-position) → option_map (λ n. n + 1) c.position.result ≡ place_in c.args.instants.now (first_fall c.args.instants.now)
+found c =
     let s = c.args.instants.now in
-    let f : SFits w64 (get_or s (l.earlier + 1) (pos 0)) = search rules in
-    let g : SFits w64 (get_or s l.earlier (pos 0)) = search rules in
-    let e = fall_here s l.earlier (omega arith) (both_compared f g c.if-instants-later.true) in
-    omega (arith, l.invariant.1)
+    place_of_fall s c.position.result
+    (position_from_yields_List fall_in _ _ c.position.result c.position.ensures.ran
+    (windows_yield s c.windows.ensures.size c.windows.ensures.rest) (λ x b q k. search (rules, tests)))
 
-pub loop-earlier-preserved : goal.loop-earlier-preserved
-loop-earlier-preserved c = let l = c.loop-earlier in
-    let s = c.args.instants.now in
-    let f : SFits w64 (get_or s (l.earlier + 1) (pos 0)) = search rules in
-    let g : SFits w64 (get_or s l.earlier (pos 0)) = search rules in
-    let e = fall_later s l.earlier (omega arith) (both_compared f g c.if-instants-later.false) in
-    (omega arith, omega (arith, l.invariant.1))
+pub returns-in_err-earlier : goal.returns-in_err-earlier
+returns-in_err-earlier c =
+    c.from_residual.ensures
+    ∙ ap (option_map (λ n. n + 1)) (sym c.in_err-earlier.was)
+    ∙ found (goal.at.returns-in_err-earlier c).After-position
 
 pub returns : goal.returns
-returns c = let l = c.loop-earlier in
-    omega (arith, l.invariant.1, fall_end c.args.instants.now l.earlier l.invariant.0 (omega arith))
+returns c = ap (option_map (λ n. n + 1)) (sym c.in_ok-earlier.was) ∙ found (goal.at.returns c).After-position

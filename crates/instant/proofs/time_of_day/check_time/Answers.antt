@@ -1,91 +1,107 @@
--- Fields that pass the tests are small natural numbers.
-use Rattle.instant.proofs.Times.{NaturalTime, natural, timeℕ, time_is}
+-- Tested fields make products and sums that fit.
+use Rattle.std.proofs.Common.{◌≡◌, refl, Bool, true, false, ap, sym, ◌∙◌, rules, cond}
+use mir.Facts.{to_z-of_z}
+use mir.Val.{SFits}
+use mir.Syntax.{w64}
+use lib.IntN.{ℤ}
+use Rattle.refusal.specs.Outcome.{value, refused}
+use Rattle.numbers.proofs.Machine.{read}
 use Rattle.instant.specs.Answers.{bad_time}
 use Rattle.instant.specs.Checked.{time_answer}
-use Rattle.instant.specs.Units.{per_second, per_minute, per_hour}
-use Rattle.numbers.specs.Range.{outside}
-use Rattle.numbers.proofs.Between.{read_high, cast_within}
-use Rattle.numbers.proofs.Machine.{answered}
-use Rattle.refusal.specs.Outcome.{value}
-use mir.Facts.{to_z-of_z, to_z_pos}
-use mir.Syntax.{w64}
-use lib.IntN.{pos, nat_abs}
-use Prim.Native.Nat.{◌+◌, ◌-◌, ◌*◌}
-use native.Mathlib.Omega.{arith}
-use mathlib.Core.Bool.{false}
-use mathlib.Core.Path.{◌≡◌, sym, ap, ◌∙◌}
+use Rattle.instant.specs.Instant.{time_of_fields}
+use Rattle.instant.proofs.Joined.{time_read}
+use Rattle.instant.proofs.Times.{NaturalTime, natural, hours_fit, minutes_fit, seconds_fit, to_minutes_fits, to_seconds_fits, time_fits}
 use Rattle.instant.proofs.time_of_day.check_time.Goals as goal
-use Rattle.instant.proofs.time_of_day.check_time.Goals.{Else-outside, Else-outside-2, Else-outside-3, Else-outside-4, Start}
+use Rattle.instant.proofs.time_of_day.check_time.Goals.{Else-outside-4, then-outside-via-then-outside, then-outside-via-else-outside+then-outside-2, then-outside-via-else-outside+else-outside-2+then-outside-3, then-outside-via-else-outside+else-outside-2+else-outside-3+then-outside-4}
 
--- what the tests have shown, one after the other
-hour_inside : (c : Else-outside) → outside (pos 0) (pos 23) c.args.hour ≡ false
-hour_inside c = answered (pos 0) (pos 23) c.ranges.hour c.outside.ensures c.if-outside.false
-
-minute_inside : (c : Else-outside-2) → outside (pos 0) (pos 59) c.args.minute ≡ false
-minute_inside c = answered (pos 0) (pos 59) c.ranges.minute c.outside-2.ensures c.if-outside-2.false
-
-second_inside : (c : Else-outside-3) → outside (pos 0) (pos 59) c.args.second ≡ false
-second_inside c = answered (pos 0) (pos 59) c.ranges.second c.outside-3.ensures c.if-outside-3.false
-
-pub returns-then-outside : goal.returns-then-outside
+-- what the tests decide
+decided :
+    (hour minute second fraction : ℤ) {t : Bool} → bad_time hour minute second fraction ≡ t →
+    cond t (refused 5) (value (time_of_fields hour minute second fraction)) ≡ time_answer hour minute second fraction
 unfolding time_answer
-returns-then-outside c = rw (answered (pos 0) (pos 23) c.ranges.hour c.outside.ensures c.if-outside.true)
+decided hour minute second fraction h = ap (λ t. cond t (refused 5) (value (time_of_fields hour minute second fraction))) (sym h)
 
-pub returns-then-outside-2 : goal.returns-then-outside-2
-unfolding time_answer
-returns-then-outside-2 c = let a = c.before.before in
-    rw (hour_inside a, answered (pos 0) (pos 59) a.ranges.minute c.outside-2.ensures c.if-outside-2.true)
+inside :
+    (c : Else-outside-4) → let f = c.args.fields in
+    bad_time (read f.hour) (read f.minute) (read f.second) (read f.millisecond) ≡ false
+inside c = search rules
 
-pub returns-then-outside-3 : goal.returns-then-outside-3
-unfolding time_answer
-returns-then-outside-3 c = let b = c.before.before in
-    let a = b.before.before in
-    rw (hour_inside a, minute_inside b, answered (pos 0) (pos 59) a.ranges.second c.outside-3.ensures c.if-outside-3.true)
+tested :
+    (c : Else-outside-4) → let f = c.args.fields in
+    NaturalTime (read f.hour) (read f.minute) (read f.second) (read f.millisecond)
+tested c = natural _ _ _ _ (inside c)
 
-pub returns-then-outside-4 : goal.returns-then-outside-4
-unfolding time_answer
-returns-then-outside-4 c = let d = c.before.before in
-    let b = d.before.before in
-    let a = b.before.before in
-    rw (hour_inside a, minute_inside b, second_inside d, answered (pos 0) (pos (per_second - 1)) a.ranges.millisecond c.outside-4.ensures c.if-outside-4.true)
+pub overflow_mul-result : goal.overflow_mul-result
+overflow_mul-result c = hours_fit (tested (goal.at.overflow_mul-result c).Else-outside-4)
 
--- all tests are passed
-abbrev start : Else-outside-4 → Start
-start c = c.before.before.before.before.before.before.before.before
+pub overflow_mul-result-2 : goal.overflow_mul-result-2
+overflow_mul-result-2 c = minutes_fit (tested (goal.at.overflow_mul-result-2 c).Else-outside-4)
 
-inside : (c : Else-outside-4) → bad_time (start c).args.hour (start c).args.minute (start c).args.second (start c).args.millisecond ≡ false
-inside c = let d = c.before.before in
-    let b = d.before.before in
-    let a = b.before.before in
-    rw (hour_inside a, minute_inside b, second_inside d, answered (pos 0) (pos (per_second - 1)) (start c).ranges.millisecond c.outside-4.ensures c.if-outside-4.false)
+pub overflow_mul-result-3 : goal.overflow_mul-result-3
+overflow_mul-result-3 c = seconds_fit (tested (goal.at.overflow_mul-result-3 c).Else-outside-4)
 
-time : (c : Else-outside-4) → NaturalTime (start c).args.hour (start c).args.minute (start c).args.second (start c).args.millisecond
-time c = natural (start c).args.hour (start c).args.minute (start c).args.second (start c).args.millisecond (inside c)
+pub overflow_add-result : goal.overflow_add-result
+overflow_add-result c =
+    let t = tested (goal.at.overflow_add-result c).Else-outside-4 in
+    rw (to_z-of_z (hours_fit t), to_z-of_z (minutes_fit t)) (to_minutes_fits t)
 
-pub overflow_cast-hour : goal.overflow_cast-hour
-overflow_cast-hour c = cast_within (start c).ranges.hour (time c).hour_within
+pub overflow_add-result-2 : goal.overflow_add-result-2
+overflow_add-result-2 c =
+    let t = tested (goal.at.overflow_add-result-2 c).Else-outside-4 in
+    rw (to_z-of_z (hours_fit t), to_z-of_z (minutes_fit t), to_z-of_z (to_minutes_fits t), to_z-of_z (seconds_fit t)) (to_seconds_fits t)
 
-pub overflow_cast-minute : goal.overflow_cast-minute
-overflow_cast-minute c = cast_within (start c).ranges.minute (time c).minute_within
-
-pub overflow_cast-second : goal.overflow_cast-second
-overflow_cast-second c = cast_within (start c).ranges.second (time c).second_within
-
-pub overflow_cast-millisecond : goal.overflow_cast-millisecond
-overflow_cast-millisecond c = cast_within (start c).ranges.millisecond (time c).fraction_within
-
-pub time_of_fields-requires : goal.time_of_fields-requires
-time_of_fields-requires c = let f = (start c).ranges in (
-  read_high f.hour (time c).hour_within,
-  (read_high f.minute (time c).minute_within, (read_high f.second (time c).second_within, omega (arith, read_high f.millisecond (time c).fraction_within))),
-)
+pub overflow_add-result-3 : goal.overflow_add-result-3
+unfolding time_of_fields
+overflow_add-result-3 c =
+    let t = tested (goal.at.overflow_add-result-3 c).Else-outside-4 in
+    rw (to_z-of_z (hours_fit t), to_z-of_z (minutes_fit t), to_z-of_z (to_minutes_fits t), to_z-of_z (seconds_fit t), to_z-of_z (to_seconds_fits t))
+    (time_fits t)
 
 pub returns : goal.returns
-unfolding time_answer timeℕ
-returns c = let f = (start (goal.at.returns c).Else-outside-4).ranges in
-    let a = (start (goal.at.returns c).Else-outside-4).args in
-    let e : c.time_of_fields.result ≡ timeℕ a.hour a.minute a.second a.millisecond =
-    c.time_of_fields.ensures.0
-    ∙ (λ i. nat_abs (to_z-of_z f.hour i) * per_hour + nat_abs (to_z-of_z f.minute i) * per_minute + nat_abs (to_z-of_z f.second i) * per_second + nat_abs (to_z-of_z f.millisecond i)) in
-    rw (inside (goal.at.returns c).Else-outside-4)
-    (ap value (to_z_pos w64 (omega (arith, c.time_of_fields.ensures.1)) ∙ ap pos e ∙ sym (time_is a.hour a.minute a.second a.millisecond (time (goal.at.returns c).Else-outside-4))))
+unfolding time_of_fields
+returns c =
+    let k = (goal.at.returns c).Else-outside-4 in
+    let t = tested k in
+    let f = k.args.fields in
+    let h : SFits w64 f.hour = search rules in
+    let m : SFits w64 f.minute = search rules in
+    let s : SFits w64 f.second = search rules in
+    let l : SFits w64 f.millisecond = search rules in
+    rw (
+      to_z-of_z (hours_fit t),
+      to_z-of_z (minutes_fit t),
+      to_z-of_z (to_minutes_fits t),
+      to_z-of_z (seconds_fit t),
+      to_z-of_z (to_seconds_fits t),
+      to_z-of_z (time_fits t),
+    )
+    (decided (read f.hour) (read f.minute) (read f.second) (read f.millisecond) (inside k) ∙ time_read f.hour f.minute f.second f.millisecond h m s l)
+
+pub returns-then-outside : goal.returns-then-outside
+returns-then-outside c =
+    let f = c.args.fields in
+    let h : SFits w64 f.hour = search rules in
+    let m : SFits w64 f.minute = search rules in
+    let s : SFits w64 f.second = search rules in
+    let l : SFits w64 f.millisecond = search rules in
+    let bad : bad_time (read f.hour) (read f.minute) (read f.second) (read f.millisecond) ≡ true =
+    elim c.then-outside.branch [
+      | then-outside-via-then-outside w ↦ rw (sym c.outside.ensures ∙ w.if-outside.true) refl
+      | then-outside-via-else-outside+then-outside-2 w ↦
+          rw (sym c.outside.ensures ∙ w.if-outside.false, sym w.outside-else-outside.ensures ∙ w.if-outside-2.true) refl
+      | then-outside-via-else-outside+else-outside-2+then-outside-3 w ↦
+          rw (
+            sym c.outside.ensures ∙ w.if-outside.false,
+            sym w.outside-else-outside.ensures ∙ w.if-outside-2.false,
+            sym w.outside-else-outside-2.ensures ∙ w.if-outside-3.true,
+          ) refl
+      | then-outside-via-else-outside+else-outside-2+else-outside-3+then-outside-4 w ↦
+          rw (
+            sym c.outside.ensures ∙ w.if-outside.false,
+            sym w.outside-else-outside.ensures ∙ w.if-outside-2.false,
+            sym w.outside-else-outside-2.ensures ∙ w.if-outside-3.false,
+            sym w.outside-else-outside-3.ensures ∙ w.if-outside-4.true,
+          ) refl
+    ]
+    in
+    decided (read f.hour) (read f.minute) (read f.second) (read f.millisecond) bad ∙ time_read f.hour f.minute f.second f.millisecond h m s l
