@@ -4,6 +4,7 @@ pub mod Dates
 pub mod Weeks
 pub mod Search
 pub mod Answers
+pub mod Counts
 pub mod Before
 pub mod Laws
 pub mod OrderLaws

@@ -1,13 +1,16 @@
 -- Years and their weeks in natural numbers, counted from the base.
 use Prim.Native.Nat.{ℕ, ◌+◌, ◌-◌, ◌*◌, ◌/◌, ◌%◌, ◌≤◌, ◌<◌}
-use mathlib.Core.Path.{◌≡◌, refl, ap}
-use mathlib.Core.Bool.{Bool, true, false, cond}
+use mathlib.Core.Path.{◌≡◌, refl, sym, ap, ◌∙◌}
+use mathlib.Core.Bool.{Bool, true, false, cond, not, ◌||◌}
 use native.Mathlib.Decide.{dec_lt}
 use native.Mathlib.Omega.{arith, by_contra}
 use lib.Dec.{ltb}
-use borrow.Author.Tests.{ltb-true, ltb-false}
+use lib.IntN.{ℤ, pos, negsuc}
+use borrow.Author.Tests.{ltb-true, ltb-false, lt-ltb, le-ltb}
+use Rattle.numbers.specs.Range.{outside}
 use Rattle.calendar.specs.Closed.{leap_day, leaps, start}
 use Rattle.calendar.proofs.Leap.{leap_le, leaps_next, few}
+use Rattle.calendar.proofs.Quotients.{hundredth_product}
 use Rattle.calendar.proofs.Order.{start_step, start_monotone}
 use Rattle.week.specs.Closed.{leap_year_days, from_year, to_year, from_day, to_day, first_day, InYear, first_week, first_monday, weeks, day_of}
 
@@ -40,6 +43,10 @@ first_day_is y =
     let q = ap (λ a. a - y / 100 + y / 100 / 4) (quarter y) in
     omega (arith, s, q, first_day_start y)
 
+-- with the century by a product
+pub first_day_coded : (y : ℕ) → y ≤ to_year + 1 → 1461 * y / 4 - y * 167773 / 16777216 + y * 167773 / 16777216 / 4 ≡ first_day y
+first_day_coded y h = ap (λ c. 1461 * y / 4 - c + c / 4) (hundredth_product y (omega arith)) ∙ first_day_is y
+
 last_start : first_day (to_year + 1) ≡ to_day + 1
 unfolding first_day start leaps
 last_start = refl
@@ -51,6 +58,9 @@ first_day_of_first = refl
 pub first_day_of_last : first_day to_year + 365 ≡ to_day + 1
 unfolding first_day start leaps
 first_day_of_last = refl
+
+-- the last year's first day bounds every other
+pub ruleset first_days = (first_day_monotone, first_day_of_last)
 
 pub first_day_le : (y : ℕ) → y ≤ to_year + 1 → first_day y ≤ to_day + 1
 first_day_le y h = omega (arith, last_start, first_day_monotone y (to_year + 1) h)
@@ -152,3 +162,27 @@ week_of_day n y w d h =
       },
       omega (arith, f),
     )
+
+-- ---- the test of a week
+
+-- week 53 is compared with the next year
+pub last_week : (y : ℕ) → ltb (first_monday y + 367) (first_day (y + 1)) ≡ not (outside (pos 1) (pos (weeks y)) (pos 53))
+last_week y =
+    by_weeks (λ k. ltb (first_monday y + 367) (first_day (y + 1)) ≡ not (outside (pos 1) (pos k) (pos 53))) y
+    (λ l. lt-ltb (first_monday y + 367) (first_day (y + 1)) l)
+    (λ l. le-ltb (first_monday y + 367) (first_day (y + 1)) l)
+
+-- beside 53 there is no number between 52 and 53, so any other week is in 1..52 exactly if it is in 1..53
+above_52 : (n : ℕ) → (n ≡ 53 → ⊥) → ltb 52 n ≡ ltb 53 n
+above_52 n other = go (dec_lt 53 n)
+  where
+    go : Dec (53 < n) → ltb 52 n ≡ ltb 53 n
+    go (yes l) = lt-ltb 52 n (omega arith) ∙ sym (lt-ltb 53 n l)
+    go (no l) = le-ltb 52 n (omega (arith, other)) ∙ sym (le-ltb 53 n (omega arith))
+
+to_53 : (z : ℤ) → (z ≡ pos 53 → ⊥) → outside (pos 1) (pos 52) z ≡ outside (pos 1) (pos 53) z
+to_53 (pos n) other = ap (λ t. ltb n 1 || t) (above_52 n (λ e. other (ap pos e)))
+to_53 (negsuc n) other = refl
+
+pub other_week : (y : ℕ) (z : ℤ) → (z ≡ pos 53 → ⊥) → outside (pos 1) (pos 52) z ≡ outside (pos 1) (pos (weeks y)) z
+other_week y z other = by_weeks (λ k. outside (pos 1) (pos 52) z ≡ outside (pos 1) (pos k) z) y (λ l. to_53 z other) (λ l. refl)

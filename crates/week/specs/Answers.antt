@@ -1,19 +1,11 @@
 -- The whole answer of each call, over all whole numbers: the refusals of document 02, request Seven, by their numbers and in its order,
 -- then the value.
 use Rattle.std.specs.Prelude.{ℕ, zero, suc, ◌+◌, cond, ℤ, pos, ◌+ℤ◌, ◌-ℤ◌}
-use Rattle.refusal.specs.Numbers.{refusal_number}
 use Rattle.refusal.specs.Outcome.{Outcome, value, refused}
 use Rattle.numbers.specs.Range.{outside, since}
 use Rattle.calendar.specs.Range.{first_year, last_year, first_count, last_count}
 use Rattle.week.specs.Week.{week_date, week_date_of, same_week_date}
 use Rattle.week.specs.declared.WeekDate.{WeekDate}
-use Rattle.week.specs.declared.WeekAnswer.{WeekAnswer}
-use Rattle.week.specs.declared.WeekAnswer.TheVariants as W
-
--- what each case of an answer hands back
-abbrev pub week_outcome : WeekAnswer → Outcome WeekDate
-week_outcome (W.Value d) = value d
-week_outcome (W.Refused r) = refused (refusal_number r)
 
 -- 4 for a count outside the range
 unfoldable pub week_answer : (days : ℤ) → Outcome WeekDate

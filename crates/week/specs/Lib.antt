@@ -6,3 +6,4 @@ pub mod Answers
 pub mod Order
 -- What only proofs and private contracts need.
 pub mod Closed
+pub mod Checked

@@ -4,37 +4,39 @@ ghost use Rattle.std.specs.Prelude.{◌≡◌, not, ◌+◌, ◌%◌, ◌≤◌,
 ghost use Rattle.numbers.specs.Range.{outside};
 ghost use Rattle.week.specs.Closed.{to_year, to_day, first_day, first_monday, weeks, day_of};
 
+use super::week_year::WeekYear;
 use calendar::products::{EIGHTH, HUNDREDTH, SEVENTH};
 
 // Whether a year has a week. It has week 53 if the Thursday of that comes before the next year.
-pub fn has_week(year: u64, week: i64) -> bool
-    requires { year ≤ to_year }
-    ensures { result ≡ not (outside (pos 1) (pos (weeks year)) week) }
+#[tactic(auto, using(crate::proofs::Years::last_week, crate::proofs::Years::other_week))]
+pub fn has_week(year: WeekYear, week: i64) -> bool
+    ensures { result ≡ not (outside (pos 1) (pos (weeks year.number)) week) }
 {
     if week == 53 {
-        return first_monday(year) + 367 < first_day(year + 1);
+        return first_monday(year) + 367 < first_day(year.number + 1);
     }
     !numbers::outside(1, 52, week)
 }
 
 // The day of a week date.
-pub fn day(year: u64, week: u64, weekday: u64) -> u64
-    requires { (year ≤ to_year) × (((1 ≤ week) × (week ≤ 53)) × ((1 ≤ weekday) × (weekday ≤ 7))) }
-    ensures { (result ≡ day_of year week weekday) × (result ≤ to_day + 371) }
+#[tactic(auto, unfolding(crate::specs::Closed::day_of))]
+pub fn day(year: WeekYear, week: u64, weekday: u64) -> u64
+    requires { ((1 ≤ week) × (week ≤ 53)) × ((1 ≤ weekday) × (weekday ≤ 7)) }
+    ensures { (result ≡ day_of year.number week weekday) × (result ≤ to_day + 371) }
 {
     first_monday(year) + 7 * (week - 1) + (weekday - 1)
 }
 
 // The Monday of a year's first week, that of 4 January.
-fn first_monday(year: u64) -> u64
-    requires { year ≤ to_year }
-    ensures { (result ≡ first_monday year) × (result ≤ to_day) }
+#[tactic(auto, using(crate::proofs::Years::first_days), unfolding(crate::specs::Closed::first_week))]
+fn first_monday(year: WeekYear) -> u64
+    ensures { (result ≡ first_monday year.number) × (result ≤ to_day) }
 {
-    let n = first_day(year);
+    let n = first_day(year.number);
     n + 4 - after_monday(n + 3)
 }
 
-// The weekday of a day, 1 Monday to 7 Sunday, as the calendar has it.
+// The weekday of a day, 1 Monday to 7 Sunday. The calendar's own is private to it, since no public function may have a `requires`.
 fn after_monday(n: u64) -> u64
     requires { n ≤ to_day + 4 }
     ensures { result ≡ n % 7 + 1 }
@@ -43,6 +45,7 @@ fn after_monday(n: u64) -> u64
 }
 
 // The first day of a year.
+#[tactic(auto, using(crate::proofs::Years::first_day_coded, crate::proofs::Years::first_day_le))]
 fn first_day(year: u64) -> u64
     requires { year ≤ to_year + 1 }
     ensures { (result ≡ first_day year) × (result ≤ to_day + 1) }

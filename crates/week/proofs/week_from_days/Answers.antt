@@ -1,55 +1,86 @@
--- The calendar's weekday says whether the count is in the range.
-use Prim.Native.Nat.{ℕ}
-use mathlib.Core.Path.{◌≡◌, sym, ap, ◌∙◌}
-use mathlib.Core.Bool.{false}
-use lib.IntN.{ℤ}
-use mir.Facts.{to_z-of_z}
-use mir.Syntax.{w64}
+use Rattle.std.proofs.Common.{◌≡◌, ℕ, ◌+◌, ◌-◌, ◌/◌, ◌%◌, ◌≤◌, ap, ◌∙◌, subst, rules, arith, pos, nat_abs}
+use mir.Facts.{to_z-of_z, to_z_pos}
 use mir.Val.{SFits}
-use borrow.Author.Rules.{rules}
-use Rattle.refusal.specs.Outcome.{value, refused, number_outcome}
-use Rattle.refusal.proofs.Outcomes.{passes, refuses, not_refused, same_value}
-use Rattle.numbers.specs.Range.{outside}
-use Rattle.numbers.proofs.Machine.{read}
-use Rattle.calendar.specs.Range.{first_count, last_count}
-use Rattle.calendar.specs.Count.{weekday}
-use Rattle.calendar.specs.Answers.{weekday_answer}
-use Rattle.week.specs.Week.{week_date_of}
+use mir.Syntax.{w64}
+use lib.IntN.{◌+ℤ◌, +ℤ_comm}
+use Rattle.refusal.specs.Outcome.{value}
+use Rattle.numbers.specs.Range.{since}
+use Rattle.numbers.proofs.Machine.{read, pos_fits, cast_pos, add_first, add_first_is}
 use Rattle.week.specs.Answers.{week_answer}
+use Rattle.week.specs.Week.{week_date}
+use Rattle.week.specs.Closed.{base_year, base_count, to_year, to_day, InYear, first_day}
+use Rattle.week.proofs.Years.{thursday_at}
+use Rattle.week.proofs.Counts.{Known, known, year_small, week_small, week_accepts}
 use Rattle.week.proofs.week_from_days.Goals as goal
-use Rattle.week.proofs.week_from_days.Goals.{In-Value}
+use Rattle.week.proofs.week_from_days.Goals.{In_ok-weekday, After-days_from_base, After-of_day-thursday}
 
--- what an accepted weekday says of the count
-accepted : (z d : ℤ) → value d ≡ weekday_answer z → (outside first_count last_count z ≡ false) × (d ≡ weekday z)
-unfolding weekday_answer
-accepted z d e = let p = passes (outside first_count last_count z) 4 (value (weekday z)) e in (p.0, same_value p.1)
+-- the count has a weekday
+count_known : (c : In_ok-weekday) → Known (read c.args.days) c.in_ok-weekday.weekday
+count_known c = known _ _ c.in_ok-weekday.ensures
 
-known : (c : In-Value) → let z = read c.args.days in
-    (outside first_count last_count z ≡ false) × (read c.in-Value.weekday ≡ weekday z)
-known c =
-    let s = c.before.before in
-    let f : SFits w64 c.in-Value.weekday = search rules in
-    accepted (read s.args.days) (read c.in-Value.weekday)
-    (ap value (to_z-of_z f) ∙ ap number_outcome (sym c.in-Value.is) ∙ c.weekday_from_days.ensures)
+weekday_read : (c : In_ok-weekday) → read c.in_ok-weekday.weekday ≡ pos (since base_count (read c.args.days) % 7 + 1)
+weekday_read c = let f : SFits w64 c.in_ok-weekday.weekday = search rules in to_z-of_z f ∙ (count_known c).weekday_is
 
-pub week_date-requires : goal.week_date-requires
-week_date-requires c = known c
+pub days_from_base-requires : goal.days_from_base-requires
+days_from_base-requires c = (count_known (goal.at.days_from_base-requires c).In_ok-weekday).inside
 
-answer : (z : ℤ) → outside first_count last_count z ≡ false → value (week_date_of z) ≡ week_answer z
-unfolding week_answer
-answer z h = rw h
+pub overflow_cast-weekday : goal.overflow_cast-weekday
+overflow_cast-weekday c =
+    cast_pos w64 (since base_count (read c.args.days) % 7 + 1) (omega arith) (weekday_read (goal.at.overflow_cast-weekday c).In_ok-weekday)
 
-pub returns-in-Value : goal.returns-in-Value
-returns-in-Value c =
-    let s = c.before.before.before in
-    ap value c.week_date.ensures ∙ answer (read s.args.days) (known (goal.at.returns-in-Value c).In-Value).0 ∙ ap week_answer (to_z-of_z s.ranges.days)
+-- the Thursday that the code hands on
+module _ (c : After-days_from_base) where
+  abbrev k : In_ok-weekday
+  k = (c.before)
 
-refusal : (z : ℤ) (k : ℕ) → refused k ≡ weekday_answer z → refused k ≡ week_answer z
-unfolding week_answer weekday_answer
-refusal z k e = refuses (outside first_count last_count z) 4 (value (weekday z)) (value (week_date_of z)) (not_refused (weekday z) (value (week_date_of z))) e
+  weekday_abs : nat_abs (read c.in_ok-weekday.weekday) ≡ since base_count (read c.args.days) % 7 + 1
+  weekday_abs = ap nat_abs (weekday_read k)
 
-pub returns-in-Refused : goal.returns-in-Refused
-returns-in-Refused c =
-    let s = c.before.before in
-    refusal (read s.args.days) _ (ap number_outcome (sym c.in-Refused.is) ∙ c.weekday_from_days.ensures)
-    ∙ ap week_answer (to_z-of_z s.ranges.days)
+  thursday_is : c.days_from_base.result + 4 - nat_abs (read c.in_ok-weekday.weekday) ≡ thursday_at (since base_count (read c.args.days))
+  thursday_is = omega (arith, c.days_from_base.ensures.0, weekday_abs)
+
+pub overflow_sub-days_from_base : goal.overflow_sub-days_from_base
+overflow_sub-days_from_base c = omega (arith, weekday_abs c, c.days_from_base.ensures.0)
+
+pub of_day-thursday-requires : goal.of_day-thursday-requires
+of_day-thursday-requires c = omega (arith, thursday_is c, c.days_from_base.ensures)
+
+-- its year and its week
+module _ (c : After-of_day-thursday) where
+  abbrev t : ℕ
+  t = thursday_at (since base_count (read c.args.days))
+
+  year_is : InYear t c.of_day-thursday.result.year
+  year_is = subst (λ n. InYear n c.of_day-thursday.result.year) (thursday_is c.before) c.of_day-thursday.ensures.0
+
+  week_is : c.of_day-thursday.result.week ≡ (t - first_day c.of_day-thursday.result.year) / 7 + 1
+  week_is = c.of_day-thursday.ensures.1 ∙ ap (λ n. (n - first_day c.of_day-thursday.result.year) / 7 + 1) (thursday_is c.before)
+
+  year_le : c.of_day-thursday.result.year ≤ to_year + 1
+  year_le = year_small (count_known (k c.before)) _ _ year_is week_is
+
+  week_le : c.of_day-thursday.result.week ≤ to_day + 4
+  week_le = week_small (count_known (k c.before)) _ _ year_is week_is
+
+  accepts :
+      value (week_date (base_year +ℤ pos c.of_day-thursday.result.year) (pos c.of_day-thursday.result.week) c.in_ok-weekday.weekday)
+      ≡ week_answer (read c.args.days)
+  accepts = week_accepts (count_known (k c.before)) _ _ year_is week_is
+
+pub overflow_cast-result : goal.overflow_cast-result
+overflow_cast-result c = let l = year_le (goal.at.overflow_cast-result c).After-of_day-thursday in pos_fits (omega arith)
+
+pub overflow_add-result : goal.overflow_add-result
+overflow_add-result c =
+    let l = year_le (goal.at.overflow_add-result c).After-of_day-thursday in
+    add_first base_year c.of_day-thursday.result.year (omega arith)
+
+pub returns : goal.returns
+returns c =
+    let o = (goal.at.returns c).After-of_day-thursday in
+    let l = year_le o in
+    let m = week_le o in
+    let f : SFits w64 c.in_ok-weekday.weekday = search rules in
+    let p = add_first_is base_year c.of_day-thursday.result.year (omega arith) ∙ +ℤ_comm (pos c.of_day-thursday.result.year) base_year in
+    (λ i. value (week_date (p i) (to_z_pos w64 {n = c.of_day-thursday.result.week} (omega (arith, m)) i) (to_z-of_z f i))) ∙ accepts o
+    ∙ ap week_answer (to_z-of_z c.ranges.days)

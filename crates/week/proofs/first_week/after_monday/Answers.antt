@@ -1,5 +1,6 @@
-use native.Mathlib.Omega.{arith}
+-- By the record of the multiplier, which the checker accepts.
 use Rattle.calendar.proofs.Weekdays.{by_sevenths}
+use native.Mathlib.Omega.{arith}
 use Rattle.week.proofs.first_week.after_monday.Goals as goal
 
 pub returns : goal.returns

@@ -1,20 +1,11 @@
-use Prim.Native.Nat.{ℕ, ◌+◌, ◌-◌, ◌*◌, ◌/◌, ◌%◌, ◌^◌, ◌<◌}
+use Prim.Native.Nat.{◌+◌, ◌-◌, ◌*◌, ◌/◌, ◌%◌, ◌^◌}
 use mathlib.Core.Path.{sym, ap, ◌∙◌, subst}
 use native.Mathlib.Omega.{arith}
 use Rattle.week.specs.Closed.{first_day, InYear}
-use Rattle.calendar.proofs.Quotients.{coded, coded_is, year_product}
-use Rattle.calendar.specs.Closed.{regular_day, days_end}
+use Rattle.calendar.proofs.Quotients.{coded_is, year_product}
+use Rattle.calendar.specs.Closed.{regular_day}
 use Rattle.week.proofs.Products.{week_is, in_year, day_is}
 use Rattle.week.proofs.year_week.of_day.Goals as goal
-
-small : (n : ℕ) → n < days_end → coded (n + 1) < 2 ^ 25
-small n h = omega (arith, coded_is n h)
-
-pub overflow_add-regular : goal.overflow_add-regular
-overflow_add-regular c = let h = c.requires in record { fits = omega (arith, small c.args.n (omega arith)) }
-
-pub overflow_mul-p : goal.overflow_mul-p
-overflow_mul-p c = let h = c.requires in record { fits = omega (arith, small c.args.n (omega arith)) }
 
 pub returns : goal.returns
 returns c =
