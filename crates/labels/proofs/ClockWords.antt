@@ -8,7 +8,8 @@ use Rattle.labels.specs.Digits.{number_at, fits}
 use Rattle.text.specs.Words.{word, bytes_of}
 use Rattle.labels.specs.Words.{pair_of, number_of, Thousandths, above}
 use Rattle.labels.specs.Timestamps.{is_clock, is_timestamp, position_of}
-use Rattle.labels.specs.Stamps.{wrong, stamp_of}
+use Rattle.refusal.specs.Outcome.{value, refused}
+use Rattle.labels.specs.Stamps.{stamp_of}
 use Rattle.text.specs.Words.{AllLe}
 use Rattle.text.proofs.Words.{word_le, bytes_le, word_bytes}
 use Rattle.labels.proofs.Gaps.{gaps, AllNear, all_near, gaps_are, near_all_fit}
@@ -89,7 +90,7 @@ module _ (clock fraction : ℕ) (hc : clock < 2 ^ 64) (hf : fraction < 2 ^ 32) w
       (ap₂ ◌&&◌ (lt-ltb (number_at 0 2 (drop 3 whole)) 60 r.minute) (lt-ltb (number_at 3 2 (drop 3 whole)) 60 r.second)))
       (and_left (fits (digits 0 2 ++ colon ∷ []) (take 3 whole)) _ f)
 
-  pub high_byte : (bit_or (bit_and clock highest) (bit_and fraction highest) ≡ 0 → ⊥) → wrong ≡ stamp_of whole
+  pub high_byte : (bit_or (bit_and clock highest) (bit_and fraction highest) ≡ 0 → ⊥) → refused 13 ≡ stamp_of whole
   high_byte never =
       no_stamp whole (λ t.
       let r = right_if t in
@@ -102,7 +103,7 @@ module _ (clock fraction : ℕ) (hc : clock < 2 ^ 64) (hf : fraction < 2 ^ 32) w
   abbrev rest_bits : ℕ
   rest_bits = bit_and (bit_xor fraction (word fraction_shape) + word fraction_rooms) highest
 
-  pub no_room : (bit_or first_bits rest_bits ≡ 0 → ⊥) → wrong ≡ stamp_of whole
+  pub no_room : (bit_or first_bits rest_bits ≡ 0 → ⊥) → refused 13 ≡ stamp_of whole
   no_room never =
       no_stamp whole (λ t.
       let r = right_if t in
@@ -245,7 +246,7 @@ module _ (clock fraction : ℕ) (hc : clock < 2 ^ 64) (hf : fraction < 2 ^ 32) w
           {hour minute second thousandths : ℕ} →
           hour ≡ pair_of (bit_xor clock (word clock_shape)) 0 → minute ≡ pair_of (bit_xor clock (word clock_shape)) 3 →
           second ≡ pair_of (bit_xor clock (word clock_shape)) 6 → thousandths ≡ number_of (bit_xor fraction (word fraction_shape)) 4 →
-          hour * 3600000 + (minute * 60 + second) * 1000 + thousandths ≡ stamp_of whole
+          value (hour * 3600000 + (minute * 60 + second) * 1000 + thousandths) ≡ stamp_of whole
       unfolding three
       words_stamp {hour} {minute} {second} {thousandths} h m s t =
           let a : hour ≡ g 0 * 10 + g 1 = h ∙ pair_is 0 in
@@ -268,4 +269,4 @@ module _ (clock fraction : ℕ) (hc : clock < 2 ^ 64) (hf : fraction < 2 ^ 32) w
             digit_rest 2,
             digit_rest 3,
           ) in
-          e ∙ is_stamp whole (stamp_right is_right) (omega (arith, sym e, a, b, c, d, firsts, rests))
+          ap value e ∙ is_stamp whole (stamp_right is_right) (omega (arith, sym e, a, b, c, d, firsts, rests))

@@ -1,5 +1,5 @@
 -- What the code finds out about a line, from where its blanks begin and end.
-use Rattle.std.proofs.Common.{◌≡◌, ℕ, ◌+◌, ◌-◌, ◌<◌, ◌≤◌, Bool, true, false, cond, ◌&&◌, ltb, List, ◌++◌, length, get_or, take, drop, sym, refl, ap, ◌∙◌, ap₂, arith, length-append, length-drop, length-take, take_all, le-ltb, lt-ltb}
+use Rattle.std.proofs.Common.{◌≡◌, ℕ, ◌+◌, ◌-◌, ◌<◌, ◌≤◌, Bool, true, false, cond, ◌&&◌, ltb, List, ◌++◌, length, get_or, take, drop, sym, refl, ap, ◌∙◌, ap₂, arith, length-append, length-drop, length-take, le-ltb, lt-ltb}
 use mathlib.Core.Bool.{and-false}
 use Rattle.refusal.specs.Outcome.{Outcome, refused}
 use Rattle.numbers.proofs.Bools.{no_both, and_left, and_right}
@@ -9,7 +9,7 @@ use Rattle.labels.specs.Timestamps.{is_timestamp}
 use Rattle.labels.specs.CueLines.{is_blank, arrow}
 use Rattle.labels.specs.Timings.{run, first_end, arrow_at, second_at, has_arrow, first_of, second_of, EndsFirst, some_blanks, marks_fit, is_cue}
 use Rattle.labels.specs.Cues.{cue_line_answer}
-use Rattle.labels.specs.Stamps.{stamp_of, cue_of_stamps}
+use Rattle.labels.specs.Stamps.{stamp_of, cue_of_both}
 use Rattle.labels.specs.declared.webvtt.Cue.{Cue}
 use Rattle.text.proofs.Words.{part_three}
 use Rattle.labels.proofs.Shapes.{uneven}
@@ -43,7 +43,7 @@ few_bytes_line line few =
 
 module _ (line : List ℕ) where
   abbrev read_both : Outcome Cue
-  read_both = cue_of_stamps (stamp_of (first_of line)) (stamp_of (second_of line))
+  read_both = cue_of_both (stamp_of (first_of line)) (stamp_of (second_of line))
 
   no_arrow : has_arrow line ≡ false → refused 13 ≡ cue_line_answer line
   no_arrow e = sym (by_cuts line ∙ ap (λ t. cond t read_both (refused 13)) e)
@@ -100,24 +100,21 @@ module _ (line : List ℕ) where
             if_first (λ e. no_arrow (ap₂ ◌&&◌ (before e)
             (ap₂ ◌&&◌ (there e) (le-ltb (arrow_at line + 3) (second_at line) (omega (arith, at_arrow e, at_second e, g))))))
 
-        pub both_read :
-            (q ≡ p + 3 → ⊥) → {m n : ℕ} → m ≡ stamp_of (take a line) → n ≡ stamp_of (take (length line - q) (drop q line)) →
-            cue_of_stamps m n ≡ cue_line_answer line
-        both_read h {m} {n} f g = go (is_timestamp (take a line)) refl
+        pub both_there : (q ≡ p + 3 → ⊥) → cue_of_both (stamp_of (take a line)) (stamp_of (drop q line)) ≡ cue_line_answer line
+        both_there h = go (is_timestamp (take a line)) refl
           where
-            read : a ≡ first_end line → cue_of_stamps m n ≡ cue_line_answer line
+            read : a ≡ first_end line → cue_of_both (stamp_of (take a line)) (stamp_of (drop q line)) ≡ cue_line_answer line
             read e =
-                ap₂ cue_of_stamps (f ∙ ap (λ a. stamp_of (take a line)) e)
-                (g ∙ ap stamp_of (take_all (length line - q) (drop q line) (omega (arith, length-drop q line))) ∙ ap (λ q. stamp_of (drop q line)) (at_second e))
+                ap₂ cue_of_both (ap (λ a. stamp_of (take a line)) e) (ap (λ q. stamp_of (drop q line)) (at_second e))
                 ∙ sym (by_cuts line
                 ∙ ap (λ t. cond t read_both (refused 13))
                 (ap₂ ◌&&◌ (before e) (ap₂ ◌&&◌ (there e) (lt-ltb (arrow_at line + 3) (second_at line) (omega (arith, h, eq, at_arrow e, at_second e))))))
 
             -- where no timestamp is read there is none
-            go : (t : Bool) → is_timestamp (take a line) ≡ t → cue_of_stamps m n ≡ cue_line_answer line
+            go : (t : Bool) → is_timestamp (take a line) ≡ t → cue_of_both (stamp_of (take a line)) (stamp_of (drop q line)) ≡ cue_line_answer line
             go true e = read (first.if_taken e)
             go false e =
-                ap (λ m. cue_of_stamps m n) (f ∙ sym (no_stamp (take a line) (λ t. no_both (is_timestamp (take a line)) t e)))
+                ap (λ m. cue_of_both m (stamp_of (drop q line))) (sym (no_stamp (take a line) (λ t. no_both (is_timestamp (take a line)) t e)))
                 ∙ none_there (is_timestamp (first_of line)) refl
               where
                 none_there : (t : Bool) → is_timestamp (first_of line) ≡ t → refused 13 ≡ cue_line_answer line

@@ -1,32 +1,35 @@
 -- The blanks of a line, or the bytes between them, and where the first timestamp ends.
-use Rattle.std.proofs.Common.{◌≡◌, ℕ, zero, suc, ◌+◌, ◌<◌, ◌≤◌, Bool, true, false, cond, not, List, [], ◌∷◌, length, get_or, take, drop, sym, refl, ap, ◌∙◌, add-one, arith, drop_of_length-le, length-take-le, drop-cons}
+use Rattle.std.proofs.Common.{◌≡◌, ℕ, zero, suc, ◌+◌, ◌<◌, ◌≤◌, Bool, true, false, cond, not, List, [], ◌∷◌, length, get_or, take, drop, sym, refl, ap, ◌∙◌, arith, length-take-le}
 use mathlib.Core.Bool.{beq}
-use borrow.Author.Tests.{not-true, not-false}
+use borrow.Author.Tests.{not-true, ltb-false}
+use Rattle.std.proofs.Common.{Option, ltb}
+use Rattle.std.specs.Option.{unwrap_or}
+use Rattle.std.specs.List.{position, position_or_len}
 use Rattle.labels.specs.CueLines.{is_blank}
 use Rattle.labels.specs.Timestamps.{is_timestamp}
 use Rattle.labels.specs.Timings.{same, run, run_le, AllAre, stamp_solid, EndsFirst}
 use Rattle.labels.proofs.StampRead.{stamp_length}
 
-same_beq : (a b : Bool) → same b a ≡ beq a b
-same_beq true true = refl
-same_beq true false = refl
-same_beq false true = refl
-same_beq false false = refl
+-- a run goes to the first byte that is not of its kind
+abbrev pub other : (blank : Bool) (byte : ℕ) → Bool
+other blank byte = not (beq (is_blank byte) blank)
 
-module _ (line : List ℕ) (i : ℕ) (blank : Bool) where
-  pub run_ends : length line ≤ i → run blank (drop i line) ≡ 0
-  run_ends h = ap (run blank) (drop_of_length-le line h)
+pub run_is : (blank : Bool) (text : List ℕ) → position_or_len (other blank) text ≡ run blank text
+run_is blank [] = refl
+run_is blank (b ∷ bs) = go (is_blank b) blank (run_is blank bs)
+  where
+    go : (t k : Bool) {m n : ℕ} → m ≡ n → cond (not (not (beq t k))) (1 + m) 0 ≡ cond (same k t) (suc n) 0
+    go true true e = omega arith
+    go true false e = refl
+    go false true e = refl
+    go false false e = omega arith
 
-  module _ (h : i < length line) {t : Bool} (e : t ≡ is_blank (get_or line i 0)) where
-    first : run blank (drop i line) ≡ cond (same blank t) (suc (run blank (drop (suc i) line))) 0
-    first = ap (run blank) (drop-cons line i 0 h) ∙ ap (λ t. cond (same blank t) (suc (run blank (drop (suc i) line))) 0) (sym e)
-
-    pub run_stops : not (beq t blank) ≡ true → run blank (drop i line) ≡ 0
-    run_stops never = first ∙ ap (λ s. cond s (suc (run blank (drop (suc i) line))) 0) (same_beq t blank ∙ not-true (beq t blank) never)
-
-    pub run_goes_on : not (beq t blank) ≡ false → run blank (drop i line) ≡ suc (run blank (drop (i + 1) line))
-    run_goes_on d =
-        first ∙ ap (λ s. cond s (suc (run blank (drop (suc i) line))) 0) (same_beq t blank ∙ not-false (beq t blank) d) ∙ ap (λ j. suc (run blank (drop j line))) (sym (add-one i))
+pub run_found : (blank : Bool) (text : List ℕ) (r : Option ℕ) → r ≡ position (other blank) text → unwrap_or r (length text) ≡ run blank text
+run_found blank text r e = ap (λ r. unwrap_or r (length text)) e ∙ go (ltb (run blank text) (length text)) refl
+  where
+    go : (t : Bool) → ltb (run blank text) (length text) ≡ t → unwrap_or (position (other blank) text) (length text) ≡ run blank text
+    go true h = rw (run_is blank text, h) refl
+    go false h = rw (run_is blank text, h) (omega (arith, ltb-false (run blank text) (length text) h, run_le blank text))
 
 -- ---- the bytes in front of the first blank
 

@@ -1,26 +1,22 @@
 -- Lines of two timestamps of the same length, with one space on each side of the arrow.
-use Rattle.std.proofs.Common.{◌≡◌, ℕ, ◌+◌, ◌<◌, true, List, [], ◌∷◌, ◌++◌, length, drop, sym, refl, ap, ◌∙◌, ap₂, arith, length-drop, take-append-drop, take_all, drop-drop}
-use lib.Bits.{bit_or}
+use Rattle.std.proofs.Common.{◌≡◌, ℕ, ◌+◌, ◌-◌, take, true, List, [], ◌∷◌, ◌++◌, length, drop, sym, refl, ap, ◌∙◌, ap₂, arith, length-drop, take-append-drop, take_all, drop-drop}
 use Rattle.labels.specs.Digits.{fits}
 use Rattle.text.specs.Words.{part_of}
-use Rattle.labels.specs.Timestamps.{is_timestamp}
 use Rattle.labels.specs.CueLines.{CueLine}
 use Rattle.labels.specs.Timings.{usual_gap, marks_fit}
 use Rattle.labels.specs.Cues.{cue_line_answer}
-use Rattle.labels.specs.Stamps.{wrong, stamp_of, cue_of_stamps}
-use Rattle.labels.proofs.StampNumbers.{by_stamp}
+use Rattle.refusal.specs.Outcome.{value}
+use Rattle.labels.specs.Stamps.{stamp_of, cue_of_stamps, cue_of_both}
+use Rattle.labels.proofs.StampNumbers.{stamp_there}
 use Rattle.labels.proofs.CueParts.{cue_line}
-use Rattle.labels.proofs.CueStamps.{not_wrong, cue_of_texts}
-
-timestamp_if : (text : List ℕ) {n : ℕ} → n ≡ stamp_of text → n < wrong → is_timestamp text ≡ true
-timestamp_if text e h = by_stamp text (λ t s. absurd (omega (arith, e, s, h))) (λ t o s. t) (λ t o s l. t)
+use Rattle.labels.proofs.CueStamps.{cue_of_texts}
 
 module _ (line : List ℕ) (n : ℕ) (l : length line ≡ n + 5 + n) (gap : fits usual_gap (part_of n 5 line) ≡ true) where
   abbrev first : List ℕ
   first = part_of 0 n line
 
   abbrev second : List ℕ
-  second = part_of (n + 5) n line
+  second = take (length line - (n + 5)) (drop (n + 5) line)
 
   line_is : line ≡ first ++ (usual_gap ++ second)
   line_is =
@@ -28,13 +24,12 @@ module _ (line : List ℕ) (n : ℕ) (l : length line ≡ n + 5 + n) (gap : fits
       ∙ ap (λ r. first ++ r)
       (sym (take-append-drop 5 (drop n line))
       ∙ ap₂ ◌++◌ (marks_fit usual_gap (part_of n 5 line) (refl, (refl, (refl, (refl, (refl, tt))))) gap)
-      (drop-drop 5 n line ∙ sym (take_all n (drop (n + 5) line) (omega (arith, l, length-drop (n + 5) line)))))
+      (drop-drop 5 n line ∙ sym (take_all (length line - (n + 5)) (drop (n + 5) line) (omega (arith, l, length-drop (n + 5) line)))))
 
-  pub usual_line : {a b : ℕ} → a ≡ stamp_of first → b ≡ stamp_of second → bit_or a b < wrong → cue_of_stamps a b ≡ cue_line_answer line
-  usual_line {a} {b} e f h =
-      let r = not_wrong a b h in
-      let t = timestamp_if first e r.0 in
-      let u = timestamp_if second f r.1 in
+  pub usual_line : {a b : ℕ} → value a ≡ stamp_of first → value b ≡ stamp_of second → cue_of_stamps a b ≡ cue_line_answer line
+  usual_line {a} {b} e f =
+      let t = stamp_there first e in
+      let u = stamp_there second f in
       let c : CueLine line first second =
       record { before = 32 ∷ []; behind = 32 ∷ []; line_is = line_is; first_is = t; blanks_before = refl; blanks_behind = refl; second_is = u } in
-      ap₂ cue_of_stamps e f ∙ sym (cue_line line first second c ∙ cue_of_texts first second t u)
+      ap₂ cue_of_both e f ∙ sym (cue_line line first second c ∙ cue_of_texts first second t u)

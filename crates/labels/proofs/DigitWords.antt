@@ -14,12 +14,6 @@ place_1000 n = rw (div-div-eq-div-mul n 10 10, div-div-eq-div-mul n 100 10)
 pub place_100 : (n : ℕ) → n / 10 / 10 ≡ n / 100
 place_100 n = rw (div-div-eq-div-mul n 10 10)
 
--- two digits
-pub two_stored : (n : ℕ) {r : ℕ} → n < 100 → r ≡ 48 + n / 10 + 256 * (48 + n % 10) → (r < 2 ^ 16) × (bytes_of 2 r ≡ digits n 2)
-two_stored n {r} h e =
-    let w : r ≡ word (digits n 2) = omega arith in
-    (omega arith, all_bytes (digits n 2) w (omega arith, (omega arith, tt)) refl)
-
 module _ (n : ℕ) (h : n < 10000) where
   abbrev two_pairs : List Cell
   two_pairs = pair (n / 100) ∷ pair (n % 100) ∷ []

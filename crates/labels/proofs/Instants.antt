@@ -22,7 +22,7 @@ use Rattle.labels.specs.Clock.{colon, clock_text}
 use Rattle.labels.specs.Rfc3339.{dash, label_length, decimals, numbers_text, label_text}
 use Rattle.text.specs.Words.{word, bytes_of}
 use Rattle.text.specs.Filled.{filled}
-use Rattle.labels.specs.Parts.{HasRoom, Narrow, NarrowFields}
+use Rattle.labels.specs.Parts.{HasRoom, NarrowFields}
 use Rattle.labels.proofs.DigitWords.{four_stored, pairs_stored}
 use Rattle.text.proofs.Filled.{filled_then}
 use Rattle.text.proofs.Decimal.{number_below}
@@ -71,20 +71,6 @@ module _ (count : ℕ) (few : 10 ^ count - 1 < 2 ^ 32) (z : ℤ) (h : HasRoom co
   room_abs = abs_read (10 ^ count - 1) few z h
 
 module _ (f : Fields) (year-within : HasRoom 4 f.year) (n : NarrowFields f) where
-  pub narrow_read :
-      Narrow (nat_abs (read f.year)) (nat_abs (read f.month)) (nat_abs (read f.day)) (nat_abs (read f.hour)) (nat_abs (read f.minute))
-      (nat_abs (read f.second)) (nat_abs (read f.millisecond))
-  narrow_read =
-      record {
-        year_below = room_below 4 (lit< tt) f.year year-within;
-        month_below = room_below 2 (lit< tt) f.month n.month_within;
-        day_below = room_below 2 (lit< tt) f.day n.day_within;
-        hour_below = room_below 2 (lit< tt) f.hour n.hour_within;
-        minute_below = room_below 2 (lit< tt) f.minute n.minute_within;
-        second_below = room_below 2 (lit< tt) f.second n.second_within;
-        fraction_below = room_below decimals (lit< tt) f.millisecond n.fraction_within;
-      }
-
   pub text_read :
       numbers_text (nat_abs (read f.year)) (nat_abs (read f.month)) (nat_abs (read f.day)) (nat_abs (read f.hour)) (nat_abs (read f.minute))
       (nat_abs (read f.second)) (nat_abs (read f.millisecond)) ≡ label_text f
@@ -100,20 +86,35 @@ module _ (f : Fields) (year-within : HasRoom 4 f.year) (n : NarrowFields f) wher
 
 -- ---- the label from its pieces
 
-pub label_filled :
-    (year month day hour minute second fraction : ℕ) → Narrow year month day hour minute second fraction → (before : List ℕ) {one two three four : List ℕ} {y t : ℕ} →
-    y ≡ word (digits year 4) → one ≡ filled 0 (bytes_of 4 y ++ dash ∷ []) before →
-    t ≡ word (digits month 2 ++ dash ∷ digits day 2 ++ letter_t ∷ digits hour 2) → two ≡ filled 5 (bytes_of 8 t ++ colon ∷ []) one →
-    three ≡ filled 14 (clock_text decimals minute second fraction) two → four ≡ filled (label_length - 1) (letter_z ∷ []) three →
-    four ≡ filled 0 (numbers_text year month day hour minute second fraction) before
-unfolding numbers_text
-label_filled year month day hour minute second fraction n before {one} {two} y e t g h k =
-    let clock = clock_text decimals minute second fraction in
-    let a = digits year 4 ++ dash ∷ [] in
-    let b = (digits month 2 ++ dash ∷ digits day 2 ++ letter_t ∷ digits hour 2) ++ colon ∷ [] in
-    let e' : one ≡ filled 0 a before = e ∙ ap (λ l. filled 0 (l ++ dash ∷ []) before) (four_stored year n.year_below y) in
-    let g' : two ≡ filled 5 b one =
-    g ∙ ap (λ l. filled 5 (l ++ colon ∷ []) one) (pairs_stored month dash day letter_t hour n.month_below n.day_below n.hour_below (omega arith) (omega arith) t) in
-    let ab = filled_then 0 a b before e' refl g' in
-    let abc = filled_then 0 (a ++ b) clock before ab refl h in
-    filled_then 0 ((a ++ b) ++ clock) (letter_z ∷ []) before abc refl k
+module _ (f : Fields) (year-within : HasRoom 4 f.year) (n : NarrowFields f) (before : List ℕ) where
+  -- the fields as the code reads them
+  abbrev pub year_of : ℕ
+  year_of = nat_abs (read f.year)
+
+  abbrev pub front : List ℕ
+  front = digits year_of 4 ++ dash ∷ []
+
+  abbrev pub middle : List ℕ
+  middle = (digits (nat_abs (read f.month)) 2 ++ dash ∷ digits (nat_abs (read f.day)) 2 ++ letter_t ∷ digits (nat_abs (read f.hour)) 2) ++ colon ∷ []
+
+  abbrev pub clock : List ℕ
+  clock = clock_text decimals (nat_abs (read f.minute)) (nat_abs (read f.second)) (nat_abs (read f.millisecond))
+
+  pub label_filled :
+      {one two three four : List ℕ} {y t : ℕ} → y ≡ word (digits year_of 4) → one ≡ filled 0 (bytes_of 4 y ++ dash ∷ []) before →
+      t ≡ word (digits (nat_abs (read f.month)) 2 ++ dash ∷ digits (nat_abs (read f.day)) 2 ++ letter_t ∷ digits (nat_abs (read f.hour)) 2) →
+      two ≡ filled 5 (bytes_of 8 t ++ colon ∷ []) one → three ≡ filled 14 clock two → four ≡ filled (label_length - 1) (letter_z ∷ []) three →
+      four ≡ filled 0 (label_text f) before
+  unfolding numbers_text
+  label_filled {one} y e t g h k =
+      let year_small = room_below 4 (lit< tt) f.year year-within in
+      let month_small = room_below 2 (lit< tt) f.month n.month_within in
+      let day_small = room_below 2 (lit< tt) f.day n.day_within in
+      let hour_small = room_below 2 (lit< tt) f.hour n.hour_within in
+      let e' : one ≡ filled 0 front before = e ∙ ap (λ l. filled 0 (l ++ dash ∷ []) before) (four_stored year_of year_small y) in
+      let g' = g
+      ∙ ap (λ l. filled 5 (l ++ colon ∷ []) one)
+      (pairs_stored (nat_abs (read f.month)) dash (nat_abs (read f.day)) letter_t (nat_abs (read f.hour)) month_small day_small hour_small (omega arith) (omega arith) t) in
+      let ab = filled_then 0 front middle before e' refl g' in
+      let abc = filled_then 0 (front ++ middle) clock before ab refl h in
+      filled_then 0 ((front ++ middle) ++ clock) (letter_z ∷ []) before abc refl k ∙ ap (λ text. filled 0 text before) (text_read f year-within n)

@@ -1,5 +1,4 @@
 pub mod Records
-pub mod Pieces
 pub mod Cells
 pub mod DigitWords
 pub mod OneByte
@@ -33,3 +32,5 @@ pub mod WeekTexts
 pub mod Laws
 pub mod WeekLaws
 pub mod Capitals
+mod ShapeWords
+mod Stores

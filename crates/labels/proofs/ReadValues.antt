@@ -5,7 +5,7 @@ use Rattle.text.specs.Decimal.{number}
 use Rattle.labels.specs.Digits.{number_at, fits}
 use Rattle.text.specs.Words.{word, byte_of, part_of}
 use Rattle.labels.specs.Words.{simple, OneWord, above, text_of, read_values, pair_of}
-use Rattle.labels.specs.declared.digits.Values.TheVariants.{Read, Malformed}
+use Rattle.refusal.specs.Outcome.{Outcome, value, refused, refused_at}
 use Rattle.text.specs.Words.{AllLe}
 use Rattle.text.proofs.Words.{word_le, byte_at, part_length, part_at}
 use Rattle.labels.proofs.Gaps.{all_near, near_nines}
@@ -107,28 +107,41 @@ values_read shape text v short p f i =
     at_le (x ∷ l) zero a = a.0
     at_le (x ∷ l) (suc k) a = at_le l k a.1
 
+abbrev pub values : ℕ → ℕ → Outcome (ℕ × ℕ)
+values v w = value (v, w)
+
+abbrev pub refused_8 : Outcome (ℕ × ℕ)
+refused_8 = refused 8
+
+abbrev taken : Outcome (ℕ × ℕ) → ℕ × ℕ
+taken (value p) = p
+taken (refused n) = (0, 0)
+taken (refused_at n place) = (0, 0)
+
 -- two numbers against two shapes, and the texts that the numbers are
 module _ (shape : List ℕ) (m : ℕ) (other : List ℕ) (n : ℕ) where
   pub both_read :
-      (v w : ℕ) → OneWord shape m → OneWord other n → Read v w ≡ read_values shape m other n → ValuesRead shape (text_of shape m) v × ValuesRead other (text_of other n) w
+      (v w : ℕ) → OneWord shape m → OneWord other n → values v w ≡ read_values shape m other n → ValuesRead shape (text_of shape m) v × ValuesRead other (text_of other n) w
   both_read v w p q e = go (fits shape (text_of shape m)) (fits other (text_of other n)) refl refl e
     where
       go : (a b : Bool) → fits shape (text_of shape m) ≡ a → fits other (text_of other n) ≡ b →
-          Read v w ≡ cond (a && b) (Read (word (above shape (text_of shape m))) (word (above other (text_of other n)))) Malformed →
+          values v w ≡ cond (a && b) (values (word (above shape (text_of shape m))) (word (above other (text_of other n)))) refused_8 →
           ValuesRead shape (text_of shape m) v × ValuesRead other (text_of other n) w
       go true true f g e =
-          let i : v ≡ word (above shape (text_of shape m)) = cc in
-          let j : w ≡ word (above other (text_of other n)) = cc in
+          let i : v ≡ word (above shape (text_of shape m)) = ap (λ o. (taken o).0) e in
+          let j : w ≡ word (above other (text_of other n)) = ap (λ o. (taken o).1) e in
           (values_read shape (text_of shape m) v p.0 p.1.0 f i, values_read other (text_of other n) w q.0 q.1.0 g j)
       go true false f g e = clash (cc)
       go false b f g e = clash (cc)
 
-  pub none_read : Malformed ≡ read_values shape m other n → fits shape (text_of shape m) && fits other (text_of other n) ≡ false
-  none_read e = go (fits shape (text_of shape m) && fits other (text_of other n)) e
+  pub none_read : {k : ℕ} → refused k ≡ read_values shape m other n → (k ≡ 8) × (fits shape (text_of shape m) && fits other (text_of other n) ≡ false)
+  none_read {k} e = go (fits shape (text_of shape m) && fits other (text_of other n)) e
     where
-      go : (t : Bool) → Malformed ≡ cond t (Read (word (above shape (text_of shape m))) (word (above other (text_of other n)))) Malformed → t ≡ false
+      go :
+          (t : Bool) → refused k ≡ cond t (values (word (above shape (text_of shape m))) (word (above other (text_of other n)))) refused_8 →
+          (k ≡ 8) × (t ≡ false)
       go true e = clash (cc)
-      go false e = refl
+      go false e = (cc, refl)
 
 -- two digits of a part of a text
 pub part_number : (text : List ℕ) (size from at : ℕ) → at + 2 ≤ size → from + size ≤ length text → number_at at 2 (part_of from size text) ≡ number_at (from + at) 2 text

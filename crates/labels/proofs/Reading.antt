@@ -1,13 +1,15 @@
 -- A label's date and the time behind it, tested and read in parts.
-use Rattle.std.proofs.Common.{◌≡◌, ℕ, ◌+◌, ◌-◌, ◌*◌, ◌<◌, ◌≤◌, Bool, true, false, cond, ◌&&◌, List, [], ◌∷◌, ◌++◌, length, get_or, take, drop, sym, refl, ap, ◌∙◌, subst, ap₂, arith, length-drop, drop_of_length-le, take_all, drop-cons}
-use mathlib.Core.Bool.{and-true, and-false, and_assoc}
-use Rattle.refusal.specs.Outcome.{refused}
+use Rattle.std.proofs.Common.{◌≡◌, ℕ, ◌+◌, ◌-◌, ◌*◌, ◌<◌, ◌≤◌, Bool, true, false, cond, ◌&&◌, List, [], ◌∷◌, ◌++◌, length, get_or, drop, sym, refl, ap, ◌∙◌, subst, ap₂, arith, drop_of_length-le, drop-cons}
+use mathlib.Core.Bool.{and-true, and-false, and_assoc, and_comm}
+use Rattle.std.proofs.Common.{Result, Ok, Err}
+use Rattle.std.specs.Result.{IfOk}
+use Rattle.refusal.specs.declared.Refusal.{Refusal}
+use Rattle.refusal.specs.Outcome.{value, refused, outcome, and_then}
 use Rattle.text.specs.Decimal.{number}
 use Rattle.labels.specs.Digits.{number_at, letter_t, letter_z, fits_one, fits}
 use Rattle.labels.specs.Rfc3339.{dash, label_length, decimals, date_shape, time_shape, read_fields, read_answer}
 use Rattle.text.specs.Words.{word, part_of}
 use Rattle.labels.specs.Words.{OneWord, text_of, read_values, pair_of, number_of, ClockValues, Thousandths}
-use Rattle.labels.specs.declared.digits.Values.TheVariants.{Read, Malformed}
 use Rattle.labels.specs.Parts.{joined, joined_values, read_time}
 use Rattle.labels.proofs.Shapes.{clock_shape, fraction_shape, uneven, fits_from, fits_overlap}
 use Rattle.text.specs.Words.{AllLe}
@@ -23,9 +25,6 @@ year_shape = 48 ∷ 48 ∷ 48 ∷ 48 ∷ []
 abbrev pub from_year_shape : List ℕ
 from_year_shape = 48 ∷ 48 ∷ dash ∷ 48 ∷ 48 ∷ dash ∷ 48 ∷ 48 ∷ []
 
-rest_is : (n : ℕ) (text : List ℕ) → take (length text - n) (drop n text) ≡ drop n text
-rest_is n text = take_all (length text - n) (drop n text) (omega (arith, length-drop n text))
-
 -- ---- two parts of a text, loaded as numbers
 
 module _ (text : List ℕ) (bytes : AllLe 255 text) (shape other : List ℕ) (i j : ℕ) (hi : i + length shape ≤ length text) (hj : j + length other ≤ length text) where
@@ -34,20 +33,23 @@ module _ (text : List ℕ) (bytes : AllLe 255 text) (shape other : List ℕ) (i 
 
   module _ {m n : ℕ} (em : m ≡ word (part_of i (length shape) text)) (en : n ≡ word (part_of j (length other) text)) where
     pub two_read :
-        (v w : ℕ) → OneWord shape m → OneWord other n → Read v w ≡ read_values shape m other n →
+        (v w : ℕ) → OneWord shape m → OneWord other n → value (v, w) ≡ read_values shape m other n →
         ValuesRead shape (part_of i (length shape) text) v × ValuesRead other (part_of j (length other) text) w
     two_read v w p q e =
         let r = both_read shape m other n v w p q e in
         (subst (λ t. ValuesRead shape t v) (loaded shape i hi em) r.0, subst (λ t. ValuesRead other t w) (loaded other j hj en) r.1)
 
-    pub two_wrong : Malformed ≡ read_values shape m other n → fits shape (part_of i (length shape) text) && fits other (part_of j (length other) text) ≡ false
-    two_wrong e = ap₂ (λ a b. fits shape a && fits other b) (sym (loaded shape i hi em)) (sym (loaded other j hj en)) ∙ none_read shape m other n e
+    pub two_wrong : {k : ℕ} → refused k ≡ read_values shape m other n →
+        (k ≡ 8) × (fits shape (part_of i (length shape) text) && fits other (part_of j (length other) text) ≡ false)
+    two_wrong e =
+        let t = none_read shape m other n e in
+        (t.0, ap₂ (λ a b. fits shape a && fits other b) (sym (loaded shape i hi em)) (sym (loaded other j hj en)) ∙ t.1)
 
 -- ---- the date
 
 module _ (label : List ℕ) where
   -- `YYYY` and `YY-MM-DD` have the year of the century in common
-  by_date : (t : Bool) → fits year_shape (part_of 0 4 label) && fits from_year_shape (part_of 2 8 label) ≡ t →
+  by_date : (t : Bool) → fits from_year_shape (part_of 2 8 label) && fits year_shape (part_of 0 4 label) ≡ t →
       read_answer label ≡ cond (t && fits (time_shape decimals) (drop 10 label)) (read_fields label (drop 10 label)) (refused 8)
   unfolding read_answer
   by_date t p =
@@ -55,18 +57,19 @@ module _ (label : List ℕ) where
       (fits_overlap (48 ∷ 48 ∷ []) (48 ∷ 48 ∷ []) (dash ∷ 48 ∷ 48 ∷ dash ∷ 48 ∷ 48 ∷ time_shape decimals) label
       ∙ ap (λ t. fits year_shape (part_of 0 4 label) && t) (fits_from from_year_shape (time_shape decimals) label 2)
       ∙ sym (and_assoc (fits year_shape (part_of 0 4 label)) _ _)
-      ∙ ap (λ t. t && fits (time_shape decimals) (drop 10 label)) p)
+      ∙ ap (λ t. t && fits (time_shape decimals) (drop 10 label)) (and_comm (fits year_shape (part_of 0 4 label)) _ ∙ p))
 
   pub wrong_length : (length label ≡ label_length → ⊥) → refused 8 ≡ read_answer label
   unfolding read_answer
   wrong_length h = sym (ap (λ t. cond t (read_fields label (drop 10 label)) (refused 8)) (uneven (date_shape ++ time_shape decimals) label (λ e. h (sym e))))
 
-  pub wrong_date : fits year_shape (part_of 0 4 label) && fits from_year_shape (part_of 2 8 label) ≡ false → refused 8 ≡ read_answer label
-  wrong_date p = sym (by_date false p)
+  pub wrong_date :
+      {k : ℕ} → (k ≡ 8) × (fits from_year_shape (part_of 2 8 label) && fits year_shape (part_of 0 4 label) ≡ false) → refused k ≡ read_answer label
+  wrong_date p = ap refused p.0 ∙ sym (by_date false p.1)
 
   pub date_read :
       (year date : ℕ) → length label ≡ label_length → ValuesRead year_shape (part_of 0 4 label) year → ValuesRead from_year_shape (part_of 2 8 label) date →
-      read_time (100 * pair_of year 0 + pair_of date 0) (pair_of date 3) (pair_of date 6) (take (length label - 10) (drop 10 label)) ≡ read_answer label
+      read_time (100 * pair_of year 0 + pair_of date 0) (pair_of date 3) (pair_of date 6) (drop 10 label) ≡ read_answer label
   date_read year date l y d =
       let e = sym (part_length 2 8 label (omega arith)) in
       let century = y.pair_is 0 (omega arith) (sym (part_length 0 4 label (omega arith))) refl refl ∙ part_number label 4 0 0 (omega arith) (omega arith) in
@@ -74,8 +77,8 @@ module _ (label : List ℕ) where
       let month = d.pair_is 3 (omega arith) e refl refl ∙ part_number label 8 2 3 (omega arith) (omega arith) in
       let day = d.pair_is 6 (omega arith) e refl refl ∙ part_number label 8 2 6 (omega arith) (omega arith) in
       let both : 100 * pair_of year 0 + pair_of date 0 ≡ number_at 0 4 label = ap₂ (λ c y. 100 * c + y) century of_century ∙ sym (number_four label (omega arith)) in
-      (λ i. read_time (both i) (month i) (day i) (rest_is 10 label i))
-      ∙ sym (by_date true (ap₂ ◌&&◌ y.shape_fits d.shape_fits))
+      (λ i. read_time (both i) (month i) (day i) (drop 10 label))
+      ∙ sym (by_date true (ap₂ ◌&&◌ d.shape_fits y.shape_fits))
 
 -- ---- the time
 
@@ -146,14 +149,6 @@ module _ (part : List ℕ) (l : length part ≡ 11 + decimals) where
     unless t e f =
         sym (ap (λ t. cond t (joined year month day (number_at 1 2 part) (number_at 4 2 part) (number_at 7 2 part) (number_at 10 decimals part)) (refused 8)) (e ∙ f))
 
-    pub wrong_first : fits_one letter_t (get_or part 0 0) ≡ false → refused 8 ≡ read_time year month day part
-    wrong_first e = unless _ time_by_parts (ap (λ t. t && (both_fit && fits_one letter_z (get_or part z_at 0))) e)
-
-    pub wrong_last : fits_one letter_z (get_or part z_at 0) ≡ false → refused 8 ≡ read_time year month day part
-    wrong_last e =
-        unless _ time_by_parts
-        (ap (λ t. fits_one letter_t (get_or part 0 0) && (both_fit && t)) e ∙ ap (λ t. fits_one letter_t (get_or part 0 0) && t) (and-false both_fit) ∙ and-false (fits_one letter_t (get_or part 0 0)))
-
     pub wrong_digits : both_fit ≡ false → refused 8 ≡ read_time year month day part
     wrong_digits e =
         unless _ time_by_parts
@@ -190,3 +185,23 @@ module _ (part : List ℕ) (l : length part ≡ 11 + decimals) where
       let whole = time_by_parts ∙ ap₂ ◌&&◌ t (ap₂ ◌&&◌ (ap₂ ◌&&◌ r.shape_fits q.shape_fits) z) in
       (λ i. joined year month day (hour i) (minute i) (second i) (decimals_are q i))
       ∙ sym (ap (λ t. cond t (joined year month day (number_at 1 2 part) (number_at 4 2 part) (number_at 7 2 part) (number_at 10 decimals part)) (refused 8)) whole)
+
+  -- what the code reads of a part whose letters fit
+  module _ (bytes : AllLe 255 part) {m n : ℕ} (em : m ≡ word (part_of 1 8 part)) (en : n ≡ word (part_of 9 4 part)) (p : OneWord clock_shape m) (q : OneWord fraction_shape n) where
+    both_read_time :
+        {v w : ℕ} → value (v, w) ≡ read_values clock_shape m fraction_shape n →
+        ValuesRead clock_shape (part_of 1 8 part) v × ValuesRead fraction_shape (part_of 9 4 part) w
+    both_read_time {v} {w} e = two_read part bytes clock_shape fraction_shape 1 9 (omega arith) (omega arith) em en v w p q e
+
+    pub values_of : (r : Result (ℕ × ℕ) Refusal) → outcome r ≡ read_values clock_shape m fraction_shape n → IfOk r (λ t. ClockValues t.0 × Thousandths t.1)
+    values_of (Ok t) e = let r = both_read_time e in (clock_read r.0, fraction_read r.1)
+    values_of (Err x) e = tt
+
+    pub told_of :
+        (year month day : ℕ) → fits_one letter_t (get_or part 0 0) ≡ true → fits_one letter_z (get_or part z_at 0) ≡ true → (r : Result (ℕ × ℕ) Refusal) →
+        outcome r ≡ read_values clock_shape m fraction_shape n →
+        and_then (outcome r) (λ t. joined_values year month day t.0 t.1) ≡ read_time year month day part
+    told_of year month day t z (Ok v) e = let r = both_read_time e in time_read year month day v.0 v.1 t z r.0 r.1
+    told_of year month day t z (Err x) e =
+        let w = two_wrong part bytes clock_shape fraction_shape 1 9 (omega arith) (omega arith) em en e in
+        ap refused w.0 ∙ wrong_digits year month day w.1

@@ -1,5 +1,5 @@
 -- A timestamp by its last twelve bytes and the digits in front of them, and by nine bytes alone.
-use Rattle.std.proofs.Common.{◌≡◌, ℕ, suc, ◌+◌, ◌-◌, ◌*◌, ◌<◌, ◌≤◌, Bool, true, false, ◌&&◌, ◌||◌, eqb, leb, List, [], ◌∷◌, ◌++◌, length, get_or, take, drop, replicate, sym, refl, ap, ◌∙◌, ap₂, append_assoc, arith, length-append, take_at, drop_at, w8, Fits, ne_eqb, le-leb}
+use Rattle.std.proofs.Common.{◌≡◌, ℕ, suc, ◌+◌, ◌-◌, ◌*◌, ◌<◌, ◌≤◌, Bool, true, false, ◌&&◌, ◌||◌, eqb, leb, List, [], ◌∷◌, ◌++◌, length, get_or, take, drop, replicate, sym, refl, ap, ◌∙◌, ap₂, append_assoc, arith, length-append, take_all, take_at, drop_at, w8, Fits, ne_eqb, le-leb}
 use lib.ListN.{length-replicate, replicate-append-replicate}
 use lib.Seq.{take-append-add}
 use Rattle.numbers.proofs.Bools.{and_left, and_right}
@@ -20,32 +20,32 @@ use Rattle.labels.proofs.StampNumbers.{stamp_same}
 
 -- ---- twelve bytes, and nine, as the code loads them
 
-module _ (text : List ℕ) (fit : (i : ℕ) → Fits w8 (get_or text i 0)) (at : ℕ) where
+module _ (text : List ℕ) (fit : (i : ℕ) → Fits w8 (get_or text i 0)) where
   loaded : (from count : ℕ) {n : ℕ} → from + count ≤ length text → n ≡ word (part_of from count text) → bytes_of count n ≡ part_of from count text
   loaded from count h e = all_bytes (part_of from count text) e (part_le 255 from count text (bytes text fit)) (part_length from count text h)
 
   pub twelve_loaded :
-      {a b : ℕ} → at + 12 ≤ length text → a ≡ word (part_of at 8 text) → b ≡ word (part_of (at + 8) 4 text) →
-      stamp_of (bytes_of 8 a ++ bytes_of 4 b) ≡ stamp_of (part_of at 12 text)
-  twelve_loaded h e f = ap stamp_of (ap₂ ◌++◌ (loaded at 8 (omega arith) e) (loaded (at + 8) 4 (omega arith) f) ∙ sym (part_two at 8 4 text))
+      {a b : ℕ} → length text ≡ 12 → a ≡ word (part_of 0 8 text) → b ≡ word (part_of 8 4 text) → stamp_of (bytes_of 8 a ++ bytes_of 4 b) ≡ stamp_of text
+  twelve_loaded h e f =
+      ap stamp_of (ap₂ ◌++◌ (loaded 0 8 (omega arith) e) (loaded 8 4 (omega arith) f) ∙ sym (part_two 0 8 4 text) ∙ take_all 12 text (omega arith))
 
   -- nine bytes are those of a timestamp exactly if they are with `00:` in front of them
   pub nine_loaded :
-      {a b : ℕ} → at + 9 ≤ length text → a ≡ word (part_of at 4 text) → b ≡ word (part_of (at + 5) 4 text) →
-      stamp_of (bytes_of 8 (a * 16777216 + get_or text (at + 4) 0 * 72057594037927936 + 3813424) ++ bytes_of 4 b) ≡ stamp_of (part_of at 9 text)
+      {a b : ℕ} → length text ≡ 9 → a ≡ word (part_of 0 4 text) → b ≡ word (part_of 5 4 text) →
+      stamp_of (bytes_of 8 (a * 16777216 + get_or text 4 0 * 72057594037927936 + 3813424) ++ bytes_of 4 b) ≡ stamp_of text
   nine_loaded {a} {b} h e f =
-      let five = part_of at 5 text in
-      let l : a * 16777216 + get_or text (at + 4) 0 * 72057594037927936 + 3813424 ≡ word (48 ∷ 48 ∷ 58 ∷ five) =
+      let five = part_of 0 5 text in
+      let l : a * 16777216 + get_or text 4 0 * 72057594037927936 + 3813424 ≡ word (48 ∷ 48 ∷ 58 ∷ five) =
       omega (
         arith,
-        e ∙ ap word (part_four at text (omega arith)),
-        ap word (part_more at 4 text (omega arith) ∙ ap (λ l. l ++ get_or text (at + 4) 0 ∷ []) (part_four at text (omega arith))),
+        e ∙ ap word (part_four 0 text (omega arith)),
+        ap word (part_more 0 4 text (omega arith) ∙ ap (λ l. l ++ get_or text 4 0 ∷ []) (part_four 0 text (omega arith))),
       ) in
-      let low = part_le 255 at 5 text (bytes text fit) in
-      let size : length (48 ∷ 48 ∷ 58 ∷ five) ≡ 8 = ap (λ n. suc (suc (suc n))) (part_length at 5 text (omega arith)) in
-      ap stamp_of (ap₂ ◌++◌ (all_bytes (48 ∷ 48 ∷ 58 ∷ five) l (omega arith, (omega arith, (omega arith, low))) size) (loaded (at + 5) 4 (omega arith) f)
-      ∙ ap (λ l. 48 ∷ 48 ∷ 58 ∷ l) (sym (part_two at 5 4 text)))
-      ∙ no_hours (part_of at 9 text) (part_length at 9 text h)
+      let low = part_le 255 0 5 text (bytes text fit) in
+      let size : length (48 ∷ 48 ∷ 58 ∷ five) ≡ 8 = ap (λ n. suc (suc (suc n))) (part_length 0 5 text (omega arith)) in
+      ap stamp_of (ap₂ ◌++◌ (all_bytes (48 ∷ 48 ∷ 58 ∷ five) l (omega arith, (omega arith, (omega arith, low))) size) (loaded 5 4 (omega arith) f)
+      ∙ ap (λ l. 48 ∷ 48 ∷ 58 ∷ l) (sym (part_two 0 5 4 text) ∙ take_all 9 text (omega arith)))
+      ∙ no_hours text h
     where
       no_hours : (nine : List ℕ) → length nine ≡ 9 → stamp_of (48 ∷ 48 ∷ 58 ∷ nine) ≡ stamp_of nine
       no_hours nine l =

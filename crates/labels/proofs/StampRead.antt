@@ -1,21 +1,21 @@
 -- What the code makes of a timestamp of any length.
-use Rattle.std.proofs.Common.{◌≡◌, ℕ, ◌+◌, ◌-◌, ◌*◌, ◌%◌, ◌^◌, ◌<◌, ◌≤◌, Bool, true, false, cond, ◌&&◌, ◌||◌, eqb, ltb, leb, List, [], ◌∷◌, ◌++◌, length, get_or, take, drop, pos, nat_abs, sym, refl, ap, ◌∙◌, ap₂, add-one, arith, length-drop, take-append-drop, length-take-le, take_all, take-suc, ltb-false, ltb-true, le-ltb, lt-ltb, eqb-true, leb-true}
+use Rattle.std.proofs.Common.{◌≡◌, ℕ, zero, suc, subst, ◌+◌, ◌-◌, ◌*◌, ◌%◌, ◌<◌, ◌≤◌, Bool, true, false, cond, ◌&&◌, ◌||◌, eqb, ltb, leb, List, [], ◌∷◌, ◌++◌, length, get_or, take, drop, nat_abs, sym, refl, ap, ◌∙◌, ap₂, add-one, arith, length-drop, take-append-drop, length-take-le, take_all, take-suc, ltb-false, ltb-true, le-ltb, lt-ltb, eqb-true, leb-true}
 use borrow.Author.Tests.{eqb-false}
-use Rattle.numbers.specs.Range.{outside}
+use mathlib.Core.Bool.{and-false}
+use Rattle.refusal.specs.Outcome.{value, refused}
+use Rattle.refusal.proofs.Outcomes.{same_value}
 use Rattle.numbers.proofs.Bools.{no_both, and_left, and_right}
 use Rattle.labels.specs.Clock.{clock_text}
 use Rattle.text.specs.Decimal.{number, number_from, is_digit}
 use Rattle.labels.specs.Digits.{fits}
-use Rattle.text.specs.Words.{part_of}
 use Rattle.labels.specs.Webvtt.{last_position}
 use Rattle.labels.specs.PositionPieces.{hundred_hours}
 use Rattle.labels.specs.Timestamps.{last_nine, in_front, is_clock, are_hours, is_timestamp, position_of}
 use Rattle.text.specs.Decimal.{all_digits}
-use Rattle.labels.specs.Stamps.{wrong, beyond, stamp_of, one_more, limited_from, leading}
-use Rattle.text.proofs.Words.{part_length}
+use Rattle.labels.specs.Stamps.{above_limit, limited, stamp_of, one_more, limited_from, leading}
 use Rattle.text.proofs.Decimal.{digit_range, all_digits_more}
 use Rattle.labels.proofs.Shapes.{uneven}
-use Rattle.labels.proofs.StampNumbers.{no_stamp, is_stamp}
+use Rattle.labels.proofs.StampNumbers.{no_value, same_refusal, no_stamp, is_stamp, refused_stamp, stamp_there}
 use Rattle.labels.proofs.StampParts.{Long, long_parts}
 
 -- ---- the number of the digits in front, as far as it is read
@@ -39,46 +39,55 @@ follow n m (b ∷ bs) d f = follow (n * 10 + (b - 48)) (one_more m b) bs (and_ri
         let s : n * 10 + (b - 48) ≡ m * 10 + b % 16 = omega (arith, q, d) in
         (λ h. s, λ h. omega (arith, s, h))
 
-limited_below : (m : ℕ) (text : List ℕ) → m < 2 ^ 14 → limited_from m text < 2 ^ 14
-limited_below m [] h = h
-limited_below m (b ∷ bs) h = limited_below (one_more m b) bs (go (ltb 999 m) refl)
-  where
-    go : (t : Bool) → ltb 999 m ≡ t → cond t m (m * 10 + b % 16) < 2 ^ 14
-    go true e = h
-    go false e = let l = ltb-false 999 m e in omega arith
-
 -- one more byte
 limited_more : (m : ℕ) (text : List ℕ) (b : ℕ) → limited_from m (text ++ b ∷ []) ≡ one_more (limited_from m text) b
 limited_more m [] b = refl
 limited_more m (x ∷ xs) b = limited_more (one_more m x) xs b
 
-pub leading_more :
-    (text : List ℕ) (i n : ℕ) (right : Bool) → i < length text → (n ≡ limited_from 0 (take i text)) × (right ≡ all_digits (take i text)) →
-    {m : ℕ} {digit : Bool} → m ≡ one_more n (get_or text i 0) → digit ≡ is_digit (get_or text i 0) →
-    (m ≡ limited_from 0 (take (i + 1) text)) × (right && digit ≡ all_digits (take (i + 1) text))
-leading_more text i n right h so_far {m} {digit} e d =
-    let b = get_or text i 0 in
-    let t : take (i + 1) text ≡ take i text ++ b ∷ [] = ap (λ j. take j text) (add-one i) ∙ take-suc text i 0 h in (
-      e ∙ ap (λ n. one_more n b) so_far.0 ∙ sym (ap (limited_from 0) t ∙ limited_more 0 (take i text) b),
-      ap₂ ◌&&◌ so_far.1 d ∙ sym (ap all_digits t ∙ all_digits_more (take i text) b),
-    )
+module _ (text : List ℕ) (i : ℕ) (h : i < length text) where
+  next : take (i + 1) text ≡ take i text ++ get_or text i 0 ∷ []
+  next = ap (λ j. take j text) (add-one i) ∙ take-suc text i 0 h
+
+  -- one more digit, and a byte that is none
+  pub leading_more :
+      {n m : ℕ} → n ≡ limited_from 0 (take i text) → all_digits (take i text) ≡ true → m ≡ one_more n (get_or text i 0) → is_digit (get_or text i 0) ≡ true →
+      (m ≡ limited_from 0 (take (i + 1) text)) × (all_digits (take (i + 1) text) ≡ true)
+  leading_more so_far digits e d =
+      let b = get_or text i 0 in (
+        e ∙ ap (λ n. one_more n b) so_far ∙ sym (ap (limited_from 0) next ∙ limited_more 0 (take i text) b),
+        ap all_digits next ∙ all_digits_more (take i text) b ∙ ap₂ ◌&&◌ digits d,
+      )
+
+  pub leading_ends : is_digit (get_or text i 0) ≡ false → refused 13 ≡ leading text
+  leading_ends d =
+      let stop : all_digits (take (i + 1) text) ≡ false =
+      ap all_digits next ∙ all_digits_more (take i text) (get_or text i 0) ∙ ap (λ t. all_digits (take i text) && t) d ∙ and-false (all_digits (take i text)) in
+      sym (ap (λ t. cond t (value (limited_from 0 text)) (refused 13)) (not_all text (i + 1) stop))
+    where
+      not_all : (text : List ℕ) (k : ℕ) → all_digits (take k text) ≡ false → all_digits text ≡ false
+      not_all text zero e = no_both true refl e
+      not_all [] (suc k) e = no_both true refl e
+      not_all (b ∷ bs) (suc k) e = go (is_digit b) (not_all bs k) e
+        where
+          go : (t : Bool) → (all_digits (take k bs) ≡ false → all_digits bs ≡ false) → t && all_digits (take k bs) ≡ false → t && all_digits bs ≡ false
+          go true f e = f e
+          go false f e = refl
 
 -- the digits in front, from their number
 module _ (text : List ℕ) where
-  no_leading : leading text ≡ wrong → all_digits text ≡ false
-  no_leading e = go (all_digits text) e
+  no_leading : {k : ℕ} → refused k ≡ leading text → (k ≡ 13) × (all_digits text ≡ false)
+  no_leading {k} e = go (all_digits text) e
     where
-      go : (t : Bool) → cond t (limited_from 0 text) wrong ≡ wrong → t ≡ false
-      go true e = absurd (omega (arith, e, limited_below 0 text (omega arith)))
-      go false e = refl
+      go : (t : Bool) → refused k ≡ cond t (value (limited_from 0 text)) (refused 13) → (k ≡ 13) × (t ≡ false)
+      go true e = no_value e
+      go false e = (same_refusal e, refl)
 
-  are_digits : (leading text ≡ wrong → ⊥) → (all_digits text ≡ true) × ((leading text ≡ limited_from 0 text) × Follows (number text) (limited_from 0 text))
-  are_digits never = go (all_digits text) refl never
+  are_digits : {n : ℕ} → value n ≡ leading text → (all_digits text ≡ true) × Follows (number text) n
+  are_digits {n} e = go (all_digits text) refl e
     where
-      go : (t : Bool) → all_digits text ≡ t → (cond t (limited_from 0 text) wrong ≡ wrong → ⊥) →
-          (t ≡ true) × ((cond t (limited_from 0 text) wrong ≡ limited_from 0 text) × Follows (number text) (limited_from 0 text))
-      go true d n = (refl, (refl, follow 0 0 text d (λ h. refl, λ h. h)))
-      go false d n = absurd (n refl)
+      go : (t : Bool) → all_digits text ≡ t → value n ≡ cond t (value (limited_from 0 text)) (refused 13) → (t ≡ true) × Follows (number text) n
+      go true d e = (refl, subst (Follows (number text)) (sym (same_value e)) (follow 0 0 text d (λ h. refl, λ h. h)))
+      go false d e = no_value (sym e)
 
 -- ---- how long a timestamp is
 
@@ -104,12 +113,8 @@ stamp_length {G} text t nine more =
         let two = leb-true 2 (length (in_front text) - 1) (and_left (leb 2 (length (in_front text) - 1)) _ h) in
         more (omega (arith, two, length-take-le (length text - 9) text (omega arith)))
 
-pub few_bytes : (text : List ℕ) → length text < 12 → (length text ≡ 9 → ⊥) → wrong ≡ stamp_of text
+pub few_bytes : (text : List ℕ) → length text < 12 → (length text ≡ 9 → ⊥) → refused 13 ≡ stamp_of text
 few_bytes text few never = no_stamp text (λ t. stamp_length text t never (λ h. omega arith))
-
--- the whole text is its part
-pub whole_part : (text : List ℕ) (n : ℕ) → length text ≡ n → stamp_of (part_of 0 n text) ≡ stamp_of text
-whole_part text n e = ap stamp_of (take_all n text (omega arith))
 
 -- ---- what the code makes of the last twelve bytes and those in front of them
 
@@ -120,14 +125,15 @@ module _ (text : List ℕ) (h : 12 ≤ length text) where
   abbrev hundreds : List ℕ
   hundreds = take k text
 
+  -- as the code cuts it
   abbrev twelve : List ℕ
-  twelve = part_of k 12 text
+  twelve = take (length text - k) (drop k text)
 
   whole : hundreds ++ twelve ≡ text
-  whole = ap (λ l. hundreds ++ l) (take_all 12 (drop k text) (omega (arith, length-drop k text))) ∙ take-append-drop k text
+  whole = ap (λ l. hundreds ++ l) (take_all (length text - k) (drop k text) (omega (arith, length-drop k text))) ∙ take-append-drop k text
 
   cut : Long hundreds twelve
-  cut = long_parts hundreds twelve (part_length k 12 text (omega arith))
+  cut = long_parts hundreds twelve (length-take-le (length text - k) (drop k text) (omega (arith, length-drop k text)) ∙ omega arith)
 
   is_both : is_timestamp text ≡ all_digits hundreds && is_timestamp twelve
   is_both = sym (ap is_timestamp whole) ∙ cut.is_both
@@ -135,51 +141,42 @@ module _ (text : List ℕ) (h : 12 ≤ length text) where
   position_is : position_of text ≡ number hundreds * hundred_hours + position_of twelve
   position_is = sym (ap position_of whole) ∙ cut.position_is
 
-  -- twelve bytes are never beyond the limit
-  twelve_is : is_timestamp twelve ≡ true → position_of twelve ≡ stamp_of twelve
-  twelve_is t = is_stamp twelve t (omega (arith, cut.below t))
+  pub wrong_front : {j : ℕ} → refused j ≡ leading hundreds → refused j ≡ stamp_of text
+  wrong_front e =
+      let r = no_leading hundreds e in
+      ap refused r.0 ∙ no_stamp text (λ t. no_both (all_digits hundreds) (and_left (all_digits hundreds) _ (sym is_both ∙ t)) r.1)
 
-  twelve_right : (stamp_of twelve ≡ wrong → ⊥) → is_timestamp twelve ≡ true
-  twelve_right never = go (is_timestamp twelve) refl
-    where
-      go : (t : Bool) → is_timestamp twelve ≡ t → t ≡ true
-      go true e = refl
-      go false e = absurd (never (sym (no_stamp twelve (λ t. no_both (is_timestamp twelve) t e))))
+  pub wrong_twelve : {j : ℕ} → refused j ≡ stamp_of twelve → refused j ≡ stamp_of text
+  wrong_twelve e =
+      let r = refused_stamp twelve e in
+      ap refused r.0 ∙ no_stamp text (λ t. no_both (is_timestamp twelve) (and_right (all_digits hundreds) _ (sym is_both ∙ t)) r.1)
 
-  module _ {last front : ℕ} (l : last ≡ stamp_of twelve) (f : front ≡ leading hundreds) where
-    pub wrong_twelve : last ≡ wrong → wrong ≡ stamp_of text
-    wrong_twelve e =
-        no_stamp text (λ t.
-        let r = and_right (all_digits hundreds) _ (sym is_both ∙ t) in
-        omega (arith, cut.below r, twelve_is r, l, e))
+  module _ {front last : ℕ} (f : value front ≡ leading hundreds) (l : value last ≡ stamp_of twelve) where
+    t : is_timestamp twelve ≡ true
+    t = stamp_there twelve l
 
-    pub wrong_front : front ≡ wrong → wrong ≡ stamp_of text
-    wrong_front e = no_stamp text (λ t. no_both (all_digits hundreds) (and_left (all_digits hundreds) _ (sym is_both ∙ t)) (no_leading hundreds (sym f ∙ e)))
+    d : (all_digits hundreds ≡ true) × Follows (number hundreds) front
+    d = are_digits hundreds f
 
-    module _ (right : last ≡ wrong → ⊥) (digits : front ≡ wrong → ⊥) where
-      t : is_timestamp twelve ≡ true
-      t = twelve_right (λ e. right (l ∙ e))
+    whole_is : is_timestamp text ≡ true
+    whole_is = is_both ∙ ap₂ ◌&&◌ d.0 t
 
-      d : (all_digits hundreds ≡ true) × ((leading hundreds ≡ limited_from 0 hundreds) × Follows (number hundreds) (limited_from 0 hundreds))
-      d = are_digits hundreds (λ e. digits (f ∙ e))
+    -- twelve bytes are never beyond the limit
+    last_is : last ≡ position_of twelve
+    last_is = same_value (l ∙ sym (is_stamp twelve t (omega (arith, cut.below t))))
 
-      whole_is : is_timestamp text ≡ true
-      whole_is = is_both ∙ ap₂ ◌&&◌ d.0 t
+    pub last_below : last < hundred_hours
+    last_below = omega (arith, last_is, cut.below t)
 
-      pub last_below : last < hundred_hours
-      last_below = omega (arith, l, twelve_is t, cut.below t)
+    pub many_hours : 999 < front → value above_limit ≡ stamp_of text
+    unfolding stamp_of
+    many_hours m =
+        let n = d.1.1 m in
+        let p : nat_abs last_position < position_of text = omega (arith, position_is) in
+        sym (ap (λ t. cond t (value (limited (position_of text))) (refused 13)) whole_is
+        ∙ ap₂ (λ a b. value (cond (a || b) above_limit (position_of text))) (le-ltb (position_of text) 0 (omega arith)) (lt-ltb (nat_abs last_position) (position_of text) p))
 
-      pub many_hours : 999 < front → beyond ≡ stamp_of text
-      unfolding stamp_of
-      many_hours m =
-          let n = d.1.1.1 (omega (arith, m, f, d.1.0)) in
-          let p : nat_abs last_position < position_of text = omega (arith, position_is) in
-          sym (ap (λ t. cond t (cond (outside (pos 0) last_position (pos (position_of text))) beyond (position_of text)) wrong) whole_is
-          ∙ ap₂ (λ a b. cond (a || b) beyond (position_of text)) (le-ltb (position_of text) 0 (omega arith)) (lt-ltb (nat_abs last_position) (position_of text) p))
-
-      pub all_hours : front ≤ 999 → front * hundred_hours + last ≡ stamp_of text
-      all_hours m =
-          let n = d.1.1.0 (omega (arith, m, f, d.1.0)) in
-          let e : front * hundred_hours + last ≡ position_of text =
-          omega (arith, position_is, ap (λ n. n * hundred_hours) n, ap (λ n. n * hundred_hours) (f ∙ d.1.0), l, twelve_is t) in
-          e ∙ is_stamp text whole_is (omega (arith, e, m, last_below))
+    pub all_hours : front ≤ 999 → value (front * hundred_hours + last) ≡ stamp_of text
+    all_hours m =
+        let e : front * hundred_hours + last ≡ position_of text = omega (arith, position_is, ap (λ n. n * hundred_hours) (d.1.0 m), last_is) in
+        ap value e ∙ is_stamp text whole_is (omega (arith, e, m, last_below))

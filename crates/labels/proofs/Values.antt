@@ -2,12 +2,14 @@
 use Rattle.std.proofs.Common.{◌≡◌, ℕ, ◌+◌, ◌%◌, ◌^◌, ◌<◌, Bool, true, false, cond, ◌&&◌, List, length, sym, refl, ap, ◌∙◌, subst, ap₂, mod-eq_of_lt, arith}
 use lib.Bits.{bit_and, bit_or, bit_xor}
 use lib.ListN.{length-map}
+use Rattle.refusal.specs.Outcome.{value, refused}
 use Rattle.labels.specs.Digits.{fits}
 use Rattle.text.specs.Words.{word}
 use Rattle.labels.specs.Words.{room_one, rooms, OneWord, above, text_of, read_values}
-use Rattle.labels.specs.declared.digits.Values.TheVariants.{Read, Malformed}
+use Rattle.std.proofs.lemmas.Nat.Bits.{bit_at_and, bit_at_or, same_from_bits}
 use Rattle.text.proofs.Words.{lower, length_bytes, bytes_le, word_bytes}
 use Rattle.labels.proofs.Gaps.{gaps, simple_low, AllNear, all_near, gaps_are, near_all_fit}
+use Rattle.labels.proofs.ReadValues.{values, refused_8}
 use Rattle.labels.proofs.Rooms.{highest, Held, or_none, low_text, text_clear, gap_word, gaps_size, sum_below, roomy, room_clear, fits_low, rooms_le, near_roomy, roomy_near}
 
 -- ---- one text
@@ -53,12 +55,18 @@ module _ (shape : List ℕ) (n : ℕ) (w : OneWord shape n) where
 
 -- ---- two texts
 
+-- one test for all bits is a test for each
+or_and : (a b m : ℕ) → bit_and (bit_or a b) m ≡ bit_or (bit_and a m) (bit_and b m)
+or_and a b m =
+    same_from_bits (bit_and (bit_or a b) m) (bit_or (bit_and a m) (bit_and b m))
+    (λ i. omega (arith, bit_at_and (bit_or a b) m i, bit_at_or a b i, bit_at_or (bit_and a m) (bit_and b m) i, bit_at_and a m i, bit_at_and b m i))
+
 module _ (shape : List ℕ) (m : ℕ) (other : List ℕ) (n : ℕ) (v : OneWord shape m) (w : OneWord other n) where
-  unless : (fits shape (text_of shape m) ≡ true → fits other (text_of other n) ≡ true → ⊥) → Malformed ≡ read_values shape m other n
+  unless : (fits shape (text_of shape m) ≡ true → fits other (text_of other n) ≡ true → ⊥) → refused 8 ≡ read_values shape m other n
   unless never = go (fits shape (text_of shape m)) (fits other (text_of other n)) refl refl
     where
       go : (a b : Bool) → fits shape (text_of shape m) ≡ a → fits other (text_of other n) ≡ b →
-          Malformed ≡ cond (a && b) (Read (word (above shape (text_of shape m))) (word (above other (text_of other n)))) Malformed
+          refused_8 ≡ cond (a && b) (value (word (above shape (text_of shape m)), word (above other (text_of other n)))) refused_8
       go true true e f = absurd (never e f)
       go true false e f = refl
       go false b e f = refl
@@ -74,24 +82,30 @@ module _ (shape : List ℕ) (m : ℕ) (other : List ℕ) (n : ℕ) (v : OneWord 
     second_sum e = et ∙ mod-eq_of_lt (sum_small other n w eb ey e) ∙ ap₂ (λ b y. bit_xor n b + y) eb ey
 
     abbrev tested : ℕ
-    tested = bit_or (bit_or (bit_or (bit_and m highest) (bit_and n highest)) (bit_and s highest)) (bit_and t highest)
+    tested = bit_and (bit_or (bit_or (bit_or m n) s) t) highest
 
-    pub one_is_wrong : (tested ≡ 0 → ⊥) → Malformed ≡ read_values shape m other n
+    each : tested ≡ bit_or (bit_or (bit_or (bit_and m highest) (bit_and n highest)) (bit_and s highest)) (bit_and t highest)
+    each =
+        or_and (bit_or (bit_or m n) s) t highest
+        ∙ ap (λ x. bit_or x (bit_and t highest))
+        (or_and (bit_or m n) s highest ∙ ap (λ x. bit_or x (bit_and s highest)) (or_and m n highest))
+
+    pub one_is_wrong : (tested ≡ 0 → ⊥) → refused 8 ≡ read_values shape m other n
     one_is_wrong never =
         unless (λ f g.
         let p = clear_bytes shape m v f in
         let q = clear_bytes other n w g in
         let c = ap (λ s. bit_and s highest) (first_sum p) ∙ clear_sum shape m v f in
         let d = ap (λ t. bit_and t highest) (second_sum q) ∙ clear_sum other n w g in
-        never (λ i. bit_or (bit_or (bit_or (p i) (q i)) (c i)) (d i)))
+        never (each ∙ (λ i. bit_or (bit_or (bit_or (p i) (q i)) (c i)) (d i))))
 
-    pub both_are_right : tested ≡ 0 → Read (bit_xor m a) (bit_xor n b) ≡ read_values shape m other n
+    pub both_are_right : tested ≡ 0 → value (bit_xor m a, bit_xor n b) ≡ read_values shape m other n
     both_are_right e =
-        let d = or_none (bit_or (bit_or (bit_and m highest) (bit_and n highest)) (bit_and s highest)) (bit_and t highest) e in
+        let d = or_none (bit_or (bit_or (bit_and m highest) (bit_and n highest)) (bit_and s highest)) (bit_and t highest) (sym each ∙ e) in
         let c = or_none (bit_or (bit_and m highest) (bit_and n highest)) (bit_and s highest) d.0 in
         let k = or_none (bit_and m highest) (bit_and n highest) c.0 in
         let f = fits_if shape m v k.0 (ap (λ s. bit_and s highest) (sym (first_sum k.0)) ∙ c.1) in
         let g = fits_if other n w k.1 (ap (λ t. bit_and t highest) (sym (second_sum k.1)) ∙ d.1) in
-        ap₂ (λ a b. Read (bit_xor m a) (bit_xor n b)) ea eb
-        ∙ ap₂ Read (value_is shape m v f) (value_is other n w g)
-        ∙ sym (ap (λ t. cond t (Read (word (above shape (text_of shape m))) (word (above other (text_of other n)))) Malformed) (ap₂ ◌&&◌ f g))
+        ap₂ (λ a b. values (bit_xor m a) (bit_xor n b)) ea eb
+        ∙ ap₂ values (value_is shape m v f) (value_is other n w g)
+        ∙ sym (ap (λ t. cond t (value (word (above shape (text_of shape m)), word (above other (text_of other n)))) refused_8) (ap₂ ◌&&◌ f g))

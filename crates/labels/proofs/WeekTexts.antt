@@ -1,5 +1,5 @@
 -- Week labels: what the code writes is the label, and what it reads are the label's numbers.
-use Rattle.std.proofs.Common.{◌≡◌, ℕ, ◌+◌, ◌-◌, ◌*◌, ◌/◌, ◌%◌, ◌^◌, ◌<◌, Bool, false, cond, ◌&&◌, List, [], ◌∷◌, ◌++◌, length, take, drop, ℤ, pos, sym, refl, ap, ◌∙◌, subst, ap₂, arith, length-drop, take_all, drop-cons}
+use Rattle.std.proofs.Common.{◌≡◌, ℕ, ◌+◌, ◌-◌, ◌*◌, ◌/◌, ◌<◌, Bool, false, cond, ◌&&◌, List, [], ◌∷◌, length, take, drop, ℤ, pos, sym, refl, ap, ◌∙◌, subst, ap₂, arith, length-drop, take_all, drop-cons}
 use Rattle.refusal.specs.Outcome.{value, refused}
 use Rattle.refusal.proofs.Outcomes.{passes, same_value}
 use Rattle.numbers.specs.Range.{outside}
@@ -9,35 +9,19 @@ use Rattle.week.specs.declared.WeekDate.{WeekDate}
 use Rattle.week.specs.Week.{week_date_of}
 use Rattle.week.specs.Answers.{week_answer, week_days_answer}
 use Rattle.week.proofs.Laws.{week_date_is_right}
-use Rattle.text.specs.Decimal.{digits, number}
+use Rattle.text.specs.Decimal.{number}
 use Rattle.labels.specs.Digits.{number_at, fits}
 use Rattle.labels.specs.Rfc3339.{dash}
 use Rattle.labels.specs.IsoWeek.{letter_w, week_length, week_text, week_shape, read_numbers, read_week_answer}
 use Rattle.text.specs.Words.{part_of}
 use Rattle.labels.specs.Words.{pair_of}
-use Rattle.text.specs.Filled.{filled}
-use Rattle.labels.specs.WeekPieces.{pieces}
 use Rattle.labels.specs.Parts.{HasRoom}
 use Rattle.text.proofs.Words.{part_length, part_four}
-use Rattle.labels.proofs.DigitWords.{both_text}
-use Rattle.text.proofs.Filled.{filled_then}
 use Rattle.labels.proofs.Shapes.{uneven, fits_overlap}
 use Rattle.labels.proofs.Gaps.{all_near}
 use Rattle.labels.proofs.ReadValues.{ValuesRead, number_four, part_number}
 
 -- ---- written
-
--- the label from its front and its end
-pub week_filled :
-    (year week weekday : ℕ) → year < 10 ^ 4 → weekday < 10 ^ 1 → (before : List ℕ) {one two : List ℕ} →
-    one ≡ filled 0 (pieces (year / 100) (year % 100) week) before → two ≡ filled 8 (dash ∷ (48 + weekday) ∷ []) one →
-    two ≡ filled 0 (week_text year week weekday) before
-unfolding week_text
-week_filled year week weekday hy hd before {one} {two} e f =
-    let a = digits year 4 ++ dash ∷ letter_w ∷ digits week 2 in
-    let d : 48 + weekday ≡ 48 + weekday % 10 = omega arith in
-    let e' : one ≡ filled 0 a before = e ∙ ap (λ y. filled 0 (y ++ dash ∷ letter_w ∷ digits week 2) before) (both_text year hy) in
-    filled_then 0 a (dash ∷ digits weekday 1) before e' refl (f ∙ ap (λ d. filled 8 (dash ∷ d ∷ []) one) d)
 
 -- week and weekday of a day in the range have room in it
 pub week_room : (days : ℤ) (d : WeekDate) → value d ≡ week_answer days → HasRoom 2 d.week × HasRoom 1 d.weekday
@@ -82,8 +66,9 @@ module _ (label : List ℕ) where
     unfolding read_week_answer
     decided e = ap (λ t. cond t (read_numbers label) (refused 8)) (sym e ∙ sym by_shapes)
 
-    pub wrong_week : fits to_week_shape (part_of 0 8 label) && fits from_week_shape (part_of 6 4 label) ≡ false → refused 8 ≡ read_week_answer label
-    wrong_week e = decided e
+    pub wrong_week :
+        {k : ℕ} → (k ≡ 8) × (fits to_week_shape (part_of 0 8 label) && fits from_week_shape (part_of 6 4 label) ≡ false) → refused k ≡ read_week_answer label
+    wrong_week e = ap refused e.0 ∙ decided e.1
 
     module _ (year rest : ℕ) (y : ValuesRead to_week_shape (part_of 0 8 label) year) (r : ValuesRead from_week_shape (part_of 6 4 label) rest) where
       year_is : 100 * pair_of year 0 + pair_of year 2 ≡ number_at 0 4 label

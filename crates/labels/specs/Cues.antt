@@ -2,19 +2,11 @@
 -- again for an end not later than its start".
 use Rattle.std.specs.Prelude.{◌≡◌, ℕ, true, false, cond, ◌⊎◌, List, ℤ}
 use Rattle.std.specs.Int.Signed.{lt_z}
-use Rattle.refusal.specs.Numbers.{refusal_number}
 use Rattle.refusal.specs.Outcome.{Outcome, value, refused, and_then}
 use Rattle.labels.specs.Timestamps.{position_answer}
 use Rattle.labels.specs.CueLines.{CueLine, Timing, between, of_none}
 use Rattle.labels.specs.Timings.{timing_of}
 use Rattle.labels.specs.declared.webvtt.Cue.{Cue}
-use Rattle.labels.specs.declared.webvtt.CueAnswer.{CueAnswer}
-use Rattle.labels.specs.declared.webvtt.CueAnswer.TheVariants as C
-
--- what each case of an answer hands back
-abbrev pub cue_outcome : CueAnswer → Outcome Cue
-cue_outcome (C.Value cue) = value cue
-cue_outcome (C.Refused r) = refused (refusal_number r)
 
 -- the cue of the answers to two timestamps: the refusals of either, then 13 for an end not later than the start
 abbrev pub cue_between : (first second : Outcome ℤ) → Outcome Cue

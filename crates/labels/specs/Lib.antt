@@ -16,5 +16,4 @@ pub mod Words
 pub mod Parts
 pub mod Timings
 pub mod Stamps
-pub mod WeekPieces
 pub mod PositionPieces

@@ -1,5 +1,5 @@
 -- Parts of an instant label as the code writes and reads them, for proofs and private contracts only: nobody has to believe them.
-use Rattle.std.specs.Prelude.{◌≡◌, ℕ, ◌+◌, ◌-◌, ◌*◌, ◌^◌, ◌<◌, false, cond, List, ℤ, pos}
+use Rattle.std.specs.Prelude.{◌≡◌, ℕ, ◌+◌, ◌-◌, ◌*◌, ◌^◌, false, cond, List, ℤ, pos}
 use Rattle.refusal.specs.Outcome.{Outcome, refused}
 use Rattle.numbers.specs.Range.{outside}
 use Rattle.calendar.specs.Closed.{before, month_days}
@@ -12,16 +12,6 @@ use Rattle.labels.specs.Rfc3339.{decimals, time_shape}
 -- a whole number that some digits can be
 abbrev pub HasRoom : (count : ℕ) → ℤ → Type 0
 HasRoom count z = outside (pos 0) (pos (10 ^ count - 1)) z ≡ false
-
--- the same of numbers that are fields of a label
-pub record Narrow (year month day hour minute second fraction : ℕ) : Type 0 where
-  pub year_below : year < 10 ^ 4
-  pub month_below : month < 10 ^ 2
-  pub day_below : day < 10 ^ 2
-  pub hour_below : hour < 10 ^ 2
-  pub minute_below : minute < 10 ^ 2
-  pub second_below : second < 10 ^ 2
-  pub fraction_below : fraction < 10 ^ decimals
 
 -- fields of an instant of which all but the year have room in the label
 pub record NarrowFields (f : Fields) : Type 0 where
@@ -46,10 +36,6 @@ abbrev pub read_time : (year month day : ℕ) (rest : List ℕ) → Outcome ℤ
 read_time year month day rest =
     cond (fits (time_shape decimals) rest)
     (joined year month day (number_at 1 2 rest) (number_at 4 2 rest) (number_at 7 2 rest) (number_at 10 decimals rest)) (refused 8)
-
--- century, year of the century, month and day, as two digits each tell them
-abbrev pub DateDigits : (century year month day : ℕ) → Type 0
-DateDigits century year month day = (century < 100) × ((year < 100) × ((month < 100) × (day < 100)))
 
 -- what the reader's table has for a month of a year with so many leap days: its length, and 32 times the days of the year before it,
 -- one more of these in a common year

@@ -1,9 +1,8 @@
 -- Texts of at most eight bytes as one number, for proofs and private contracts only: nobody has to believe them.
 use Rattle.std.specs.Prelude.{◌≡◌, ℕ, zero, suc, ◌+◌, ◌-◌, ◌*◌, ◌/◌, ◌^◌, ◌<◌, ◌≤◌, Bool, true, cond, not, ◌&&◌, List, [], ◌∷◌, map, length, ◌==◌, nat_le}
+use Rattle.refusal.specs.Outcome.{Outcome, value, refused}
 use Rattle.text.specs.Words.{word, byte_of, bytes_of}
 use Rattle.labels.specs.Digits.{has_small, fits}
-use Rattle.labels.specs.declared.digits.Values.{Values}
-use Rattle.labels.specs.declared.digits.Values.TheVariants.{Read, Malformed}
 
 -- a shape without T and Z, of bytes that a digit's value more leaves below 128
 abbrev pub simple : (shape : List ℕ) → Bool
@@ -31,10 +30,11 @@ above (s ∷ ss) (b ∷ bs) = (b - s) ∷ above ss bs
 abbrev pub text_of : (shape : List ℕ) (n : ℕ) → List ℕ
 text_of shape n = bytes_of (length shape) n
 
--- the values of two texts of some shapes
-abbrev pub read_values : (shape : List ℕ) (m : ℕ) (other : List ℕ) (n : ℕ) → Values
+-- the values of two texts of some shapes; 8 for other texts
+abbrev pub read_values : (shape : List ℕ) (m : ℕ) (other : List ℕ) (n : ℕ) → Outcome (ℕ × ℕ)
 read_values shape m other n =
-    cond (fits shape (text_of shape m) && fits other (text_of other n)) (Read (word (above shape (text_of shape m))) (word (above other (text_of other n)))) Malformed
+    cond (fits shape (text_of shape m) && fits other (text_of other n)) (value (word (above shape (text_of shape m)), word (above other (text_of other n))))
+    (refused 8)
 
 -- the numbers of two digits of some values, each in the byte of its tens; and that from byte k on
 abbrev pub pairs : (values : ℕ) → ℕ

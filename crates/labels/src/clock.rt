@@ -1,7 +1,7 @@
 // The clock behind the hours, which both labels have, written; and with the hours, a time of day, read.
 
 ghost use Rattle.std.specs.Prelude.{◌≡◌, ◌+◌, ◌<◌, ◌≤◌, length, pos};
-ghost use Rattle.refusal.specs.Outcome.{number_outcome};
+ghost use Rattle.refusal.specs.Outcome.{outcome};
 ghost use Rattle.instant.specs.Checked.{time_answer};
 ghost use Rattle.labels.specs.Clock.{clock_text};
 ghost use Rattle.text.specs.Filled.{filled};
@@ -10,7 +10,7 @@ ghost use Rattle.labels.specs.Words.{pair_of, number_of, ClockValues, Thousandth
 use crate::digits::{COLON, HIGHEST_BITS, POINT, ZERO};
 use crate::{buffer, digits};
 use instant::units::{PER_MINUTE, PER_SECOND};
-use refusal::{NumberAnswer, Refusal};
+use refusal::Refusal;
 
 // What the tens of minutes and seconds, which are the first and the last byte of `MM:S`, can be raised by without setting a highest
 // bit: 127 less 5.
@@ -26,18 +26,15 @@ pub fn put(out: &mut [u8], at: usize, minute: u32, second: u32, thousandths: u32
 }
 
 // The time of day of the values of `HH:MM:SS` and of `.mmm`. 5 for one that no day has.
-pub fn time_of_day(clock: u64, fraction: u64) -> NumberAnswer
+pub fn time_of_day(clock: u64, fraction: u64) -> Result<i64, Refusal>
     requires { ClockValues clock × Thousandths fraction }
-    ensures { number_outcome result ≡ time_answer (pos (pair_of clock 0)) (pos (pair_of clock 3)) (pos (pair_of clock 6)) (pos (number_of fraction 4)) }
+    ensures { outcome result ≡ time_answer (pos (pair_of clock 0)) (pos (pair_of clock 3)) (pos (pair_of clock 6)) (pos (number_of fraction 4)) }
 {
     // Of the pairs of digits, that of the hours is the lowest byte and that of the minutes the fourth: 60 times the first is added.
     let minutes = (digits::pairs(clock) & 0xff00_00ff) * 0x3c00_0001 / 0x100_0000 % 0x1_0000;
     if minutes > 1439 || clock / 0x100_0000 % 0x1_0000_0000 + TENS_ROOM & HIGHEST_BITS != 0 {
-        return NumberAnswer::Refused(Refusal::TimeOutOfRange);
+        return Err(Refusal::TimeOutOfRange);
     }
-    NumberAnswer::Value(
-        (minutes * PER_MINUTE
-            + digits::pair(clock, 6) as u64 * PER_SECOND
-            + digits::thousandths(fraction)) as i64,
-    )
+    let seconds = digits::pair(clock, 6) as u64;
+    Ok((minutes * PER_MINUTE + seconds * PER_SECOND + digits::thousandths(fraction)) as i64)
 }

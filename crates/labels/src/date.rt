@@ -1,13 +1,13 @@
 // The day count of a label's date. The digits tell the century and its year apart, so that no year is divided by 100.
 
 ghost use Rattle.std.specs.Prelude.{◌≡◌, ◌+◌, ◌*◌, ◌<◌, ◌≤◌, pos};
-ghost use Rattle.refusal.specs.Outcome.{number_outcome};
+ghost use Rattle.refusal.specs.Outcome.{outcome};
 ghost use Rattle.calendar.specs.Closed.{leap_day};
 ghost use Rattle.calendar.specs.Answers.{days_answer};
-ghost use Rattle.labels.specs.Parts.{DateDigits, month_entry};
+ghost use Rattle.labels.specs.Parts.{month_entry};
 
 use calendar::base::CYCLE;
-use refusal::{NumberAnswer, Refusal};
+use refusal::Refusal;
 
 // The days of four centuries, and of four years of one.
 const FOUR_CENTURIES: u64 = CYCLE as u64;
@@ -47,21 +47,49 @@ const NOVEMBER: u64 = 32 * 305 + 30;
 
 const DECEMBER: u64 = 32 * 335 + 31;
 
-// The day count of a date whose year is 100 times the century and the year of it. 2 and 3 as the calendar, and never 1.
-pub fn day_count(century: u64, year: u64, month: u64, day: u64) -> NumberAnswer
-    requires { DateDigits century year month day }
-    ensures { number_outcome result ≡ days_answer (pos (100 * century + year)) (pos month) (pos day) }
+// For each month the entry in a common year and in a leap year.
+const ENTRIES: &[[u64; 2]; 12] = &[
+    [JANUARY, LEAP_JANUARY],
+    [FEBRUARY, LEAP_FEBRUARY],
+    [MARCH, MARCH],
+    [APRIL, APRIL],
+    [MAY, MAY],
+    [JUNE, JUNE],
+    [JULY, JULY],
+    [AUGUST, AUGUST],
+    [SEPTEMBER, SEPTEMBER],
+    [OCTOBER, OCTOBER],
+    [NOVEMBER, NOVEMBER],
+    [DECEMBER, DECEMBER],
+];
+
+// A date of four digits of the year, as two numbers of two, and two digits each of the month and the day.
+#[derive(Clone, Copy)]
+pub struct LabelDate {
+    pub century: u64,
+    pub year: u64,
+    pub month: u64,
+    pub day: u64,
+    ghost two_digits: { (century < 100) × ((year < 100) × ((month < 100) × (day < 100))) },
+}
+
+// The day count of a date. 2 and 3 as the calendar, and never 1.
+pub fn day_count(date: LabelDate) -> Result<i64, Refusal>
+    ensures { outcome result ≡ days_answer (pos (100 * date.century + date.year)) (pos date.month) (pos date.day) }
 {
-    if month < 1 || month > 12 {
-        return NumberAnswer::Refused(Refusal::MonthOutOfRange);
+    if date.month < 1 || date.month > 12 {
+        return Err(Refusal::MonthOutOfRange);
     }
-    let entry = month_entry(leap_day(century, year), month);
-    if day < 1 || day > entry % 32 {
-        return NumberAnswer::Refused(Refusal::DayOutOfRange);
+    let entry = month_entry(leap_day(date.century, date.year), date.month);
+    if date.day < 1 || date.day > entry % 32 {
+        return Err(Refusal::DayOutOfRange);
     }
     // The quarters, rounded down, are the days before the year but for one in a common year, which the entry has.
-    let days = FOUR_CENTURIES * century / 4 + FOUR_YEARS * year / 4 + entry / 32 + day;
-    NumberAnswer::Value(days as i64 - EPOCH)
+    let days = FOUR_CENTURIES * date.century / 4
+        + FOUR_YEARS * date.year / 4
+        + entry / 32
+        + date.day;
+    Ok(days as i64 - EPOCH)
 }
 
 // 1 in a leap year, else 0: 4 divides the year of the century, or the century where that year is 0.
@@ -73,36 +101,10 @@ fn leap_day(century: u64, year: u64) -> u64
     (n % 4 == 0) as u64
 }
 
-// The entry of a month. Each number has an arm of its own, so that the compiler makes a table of them.
+// The entry of a month.
 fn month_entry(leap: u64, month: u64) -> u64
     requires { (leap ≤ 1) × ((1 ≤ month) × (month ≤ 12)) }
     ensures { (result ≡ month_entry leap month) × (result < 12000) }
 {
-    match 2 * month + leap {
-        2 => JANUARY,
-        3 => LEAP_JANUARY,
-        4 => FEBRUARY,
-        5 => LEAP_FEBRUARY,
-        6 => MARCH,
-        7 => MARCH,
-        8 => APRIL,
-        9 => APRIL,
-        10 => MAY,
-        11 => MAY,
-        12 => JUNE,
-        13 => JUNE,
-        14 => JULY,
-        15 => JULY,
-        16 => AUGUST,
-        17 => AUGUST,
-        18 => SEPTEMBER,
-        19 => SEPTEMBER,
-        20 => OCTOBER,
-        21 => OCTOBER,
-        22 => NOVEMBER,
-        23 => NOVEMBER,
-        24 => DECEMBER,
-        25 => DECEMBER,
-        _ => 0,
-    }
+    ENTRIES[month as usize - 1][leap as usize]
 }

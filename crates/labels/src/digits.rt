@@ -3,7 +3,10 @@
 ghost use Rattle.std.specs.Prelude.{◌≡◌, ◌+◌, ◌/◌, ◌^◌, ◌<◌, ◌≤◌, ◌∷◌, ◌++◌, length};
 ghost use Rattle.text.specs.Decimal.{digits};
 ghost use Rattle.text.specs.Words.{word, part_of};
+ghost use Rattle.refusal.specs.Outcome.{outcome};
 ghost use Rattle.labels.specs.Words.{room_one, rooms, OneWord, read_values, pairs, pair_of, number_of, Thousandths};
+
+use refusal::Refusal;
 
 // The byte of the digit 0.
 pub const ZERO: u32 = 48;
@@ -49,35 +52,29 @@ pub fn three_pairs(a: u32, first: u8, b: u32, second: u8, c: u32) -> u64
     256 * pairs - 2559 * tens + (marks + 0x3030_0030_3000_3030)
 }
 
-#[derive(Clone, Copy)]
-pub enum Values {
-    Read(u64, u64),
-    Malformed,
-}
-
 // The highest bit of each of eight bytes.
 pub const HIGHEST_BITS: u64 = 0x8080_8080_8080_8080;
 
-// The values of the digits of two texts of at most eight bytes, handed in as numbers, if each has its shape: a digit where the shape
-// has a 0, and the same byte where it has another.
-pub fn read_values(first: u64, shape: &[u8], second: u64, other: &[u8]) -> Values
+// The values of the digits of a text of eight bytes and of one of four, handed in as numbers, if each has its shape: a digit where the
+// shape has a 0, and the same byte where it has another. 8 for other texts.
+pub fn read_values(
+    first: u64,
+    shape: &[u8; 8],
+    second: u64,
+    other: &[u8; 4],
+) -> Result<(u64, u64), Refusal>
     requires { OneWord shape.now first × OneWord other.now second }
-    ensures { result ≡ read_values shape.now first other.now second }
+    ensures { outcome result ≡ read_values shape.now first other.now second }
 {
-    let v = first ^ word_of(shape);
-    let w = second ^ word_of(other);
-    let raised = std::num::wrapping_add_u64(v, room_of(shape));
-    let other_raised = std::num::wrapping_add_u64(w, room_of(other));
+    let v = first ^ u64::from_le_bytes(*shape);
+    let w = second ^ u32::from_le_bytes(*other) as u64;
+    let raised = v.wrapping_add(u64::from_le_bytes(shape.map(room_one)));
+    let other_raised = w.wrapping_add(u32::from_le_bytes(other.map(room_one)) as u64);
     // A byte of a wrong text is 128 or more, or is raised to it; where no byte is, no sum wraps.
-    if first & HIGHEST_BITS
-        | second & HIGHEST_BITS
-        | raised & HIGHEST_BITS
-        | other_raised & HIGHEST_BITS
-        != 0
-    {
-        return Values::Malformed;
+    if (first | second | raised | other_raised) & HIGHEST_BITS != 0 {
+        return Err(Refusal::MalformedLabel);
     }
-    Values::Read(v, w)
+    Ok((v, w))
 }
 
 // The numbers of two digits of some values, each in the byte of its tens.
@@ -120,36 +117,8 @@ pub fn four_bytes(text: &[u8], at: usize) -> u64
     text::four_bytes(text[at], text[at + 1], text[at + 2], text[at + 3]) as u64
 }
 
-// A shape as one number.
-fn word_of(shape: &[u8]) -> u64
-    requires { length shape.now ≤ 8 }
-    ensures { result ≡ word shape.now }
-{
-    let mut n: u64 = 0;
-    let mut i = shape.len();
-    while i > 0 {
-        i -= 1;
-        n = n * 256 + shape[i] as u64;
-    }
-    n
-}
-
-// What each value of a shape can be raised by without setting its highest bit.
-fn room_of(shape: &[u8]) -> u64
-    requires { length shape.now ≤ 8 }
-    ensures { result ≡ word (rooms shape.now) }
-{
-    let mut n: u64 = 0;
-    let mut i = shape.len();
-    while i > 0 {
-        i -= 1;
-        n = n * 256 + room_one(shape[i]);
-    }
-    n
-}
-
-// 127 less 9 at a digit, and less 0 at a mark.
-fn room_one(shape: u8) -> u64
+// What the value of a byte of a shape can be raised by without setting its highest bit: 127 less 9 at a digit, and less 0 at a mark.
+fn room_one(shape: u8) -> u8
     ensures { (result ≡ room_one shape) × (result ≤ 127) }
 {
     if shape == b'0' { 118 } else { 127 }

@@ -13,8 +13,6 @@
 
 #![tactic(auto)]
 
-use refusal::{NumberAnswer, Refusal};
-
 mod buffer;
 mod clock;
 mod cue;
@@ -29,13 +27,3 @@ mod timestamp;
 mod two_digits;
 pub mod webvtt;
 mod years;
-
-ghost use Rattle.std.specs.Prelude.{◌≡◌};
-ghost use Rattle.refusal.specs.Outcome.{refused, number_outcome};
-
-// What the readers of labels answer to a label of another shape.
-fn malformed() -> NumberAnswer
-    ensures { number_outcome result ≡ refused 8 }
-{
-    NumberAnswer::Refused(Refusal::MalformedLabel)
-}

@@ -2,7 +2,8 @@
 
 ghost use Rattle.std.specs.Prelude.{◌≡◌, ◌+◌, ◌<◌, ◌≤◌, ◌∷◌, length, unsigned_abs};
 ghost use Rattle.refusal.specs.Outcome.{value};
-ghost use Rattle.refusal.specs.Written.{write_outcome, bytes_written, written_buffer};
+ghost use Rattle.refusal.specs.Written.{bytes_written, written_buffer};
+ghost use Rattle.refusal.specs.Outcome.{outcome};
 ghost use Rattle.text.specs.Filled.{filled, Begins};
 ghost use Rattle.labels.specs.Webvtt.{last_position, hour_digits, clock_of, position_text};
 ghost use Rattle.labels.specs.PositionPieces.{hundred_hours};
@@ -12,23 +13,23 @@ ghost use Rattle.labels.specs.Clock.{colon};
 use crate::digits::{COLON, ZERO};
 use crate::timestamp::{MS_PER_HOUR, MS_PER_SECOND, SECONDS_PER_MINUTE};
 use crate::{buffer, clock, digits};
-use refusal::{Refusal, WriteAnswer};
+use refusal::Refusal;
 
 // Writes the label of n milliseconds. 7 for a buffer shorter than it.
-pub fn write(n: u64, out: &mut [u8]) -> WriteAnswer
+pub fn write(n: u64, out: &mut [u8]) -> Result<usize, Refusal>
     requires { (hundred_hours ≤ n) × (n ≤ unsigned_abs last_position) }
-    ensures answer { write_outcome result ≡ bytes_written (value (position_text n)) out.old }
+    ensures answer { outcome result ≡ bytes_written (value (position_text n)) out.old }
     ensures buffer { out.new ≡ written_buffer (value (position_text n)) out.old }
 {
     let hours = (n / MS_PER_HOUR) as u32;
     let count = hour_digits(hours);
     let length = count + 10;
     if out.len() < length {
-        return WriteAnswer::Refused(Refusal::BufferTooShort);
+        return Err(Refusal::BufferTooShort);
     }
     put_hours(out, hours, count);
     put_clock(out, count, n);
-    WriteAnswer::Written(length)
+    Ok(length)
 }
 
 // How many digits the hours have.

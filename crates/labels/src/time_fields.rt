@@ -1,6 +1,7 @@
 // The fields of a time that labels show, by products with 32 bits behind the point: each factor is 2^32 / d rounded up, so that the
 // product of n holds n / d, and behind the point (n % d) / d with an error that is too small to reach the next number. What is behind
-// the point follows from the factor's record.
+// the point follows from the factor's record. Each function stands by itself: one for all of them would take the factor and the bound of
+// its error as parameters that its contract would have to relate.
 
 ghost use Rattle.std.specs.Prelude.{◌≡◌, ◌+◌, ◌*◌, ◌/◌, ◌%◌, ◌<◌};
 

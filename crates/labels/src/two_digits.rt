@@ -1,114 +1,30 @@
 // The two digits of each number below 100, for writers that put two bytes at a time.
 
-ghost use Rattle.std.specs.Prelude.{◌≡◌, ◌+◌, ◌*◌, ◌/◌, ◌%◌, ◌<◌};
+ghost use Rattle.std.specs.Prelude.{◌≡◌, ◌+◌, ◌<◌, ◌≤◌, length, slice_index};
+ghost use Rattle.text.specs.Decimal.{digits};
+ghost use Rattle.text.specs.Filled.{filled};
 
-// The two digits of a number as bytes of one number, the first the lower. The compiler makes a table of the arms that no call copies,
-// where a call of it stands in a loop in a loop; one other call may be in a single loop.
-pub fn text_of(n: u32) -> u64
-    requires { n < 100 }
-    ensures { result ≡ 48 + n / 10 + 256 * (48 + n % 10) }
+// The digits of 00, 01, .. 99.
+const PAIRS: [u8; 200] = *b"\
+    0001020304050607080910111213141516171819\
+    2021222324252627282930313233343536373839\
+    4041424344454647484950515253545556575859\
+    6061626364656667686970717273747576777879\
+    8081828384858687888990919293949596979899";
+
+// Stores the two digits of a number from byte `at` of a buffer on.
+pub fn put(out: &mut [u8], at: usize, n: u64)
+    requires { (n < 100) × (at + 2 ≤ length out.old) }
+    ensures { out.new ≡ filled at (digits n 2) out.old }
 {
-    match n {
-        0 => 0x3030,
-        1 => 0x3130,
-        2 => 0x3230,
-        3 => 0x3330,
-        4 => 0x3430,
-        5 => 0x3530,
-        6 => 0x3630,
-        7 => 0x3730,
-        8 => 0x3830,
-        9 => 0x3930,
-        10 => 0x3031,
-        11 => 0x3131,
-        12 => 0x3231,
-        13 => 0x3331,
-        14 => 0x3431,
-        15 => 0x3531,
-        16 => 0x3631,
-        17 => 0x3731,
-        18 => 0x3831,
-        19 => 0x3931,
-        20 => 0x3032,
-        21 => 0x3132,
-        22 => 0x3232,
-        23 => 0x3332,
-        24 => 0x3432,
-        25 => 0x3532,
-        26 => 0x3632,
-        27 => 0x3732,
-        28 => 0x3832,
-        29 => 0x3932,
-        30 => 0x3033,
-        31 => 0x3133,
-        32 => 0x3233,
-        33 => 0x3333,
-        34 => 0x3433,
-        35 => 0x3533,
-        36 => 0x3633,
-        37 => 0x3733,
-        38 => 0x3833,
-        39 => 0x3933,
-        40 => 0x3034,
-        41 => 0x3134,
-        42 => 0x3234,
-        43 => 0x3334,
-        44 => 0x3434,
-        45 => 0x3534,
-        46 => 0x3634,
-        47 => 0x3734,
-        48 => 0x3834,
-        49 => 0x3934,
-        50 => 0x3035,
-        51 => 0x3135,
-        52 => 0x3235,
-        53 => 0x3335,
-        54 => 0x3435,
-        55 => 0x3535,
-        56 => 0x3635,
-        57 => 0x3735,
-        58 => 0x3835,
-        59 => 0x3935,
-        60 => 0x3036,
-        61 => 0x3136,
-        62 => 0x3236,
-        63 => 0x3336,
-        64 => 0x3436,
-        65 => 0x3536,
-        66 => 0x3636,
-        67 => 0x3736,
-        68 => 0x3836,
-        69 => 0x3936,
-        70 => 0x3037,
-        71 => 0x3137,
-        72 => 0x3237,
-        73 => 0x3337,
-        74 => 0x3437,
-        75 => 0x3537,
-        76 => 0x3637,
-        77 => 0x3737,
-        78 => 0x3837,
-        79 => 0x3937,
-        80 => 0x3038,
-        81 => 0x3138,
-        82 => 0x3238,
-        83 => 0x3338,
-        84 => 0x3438,
-        85 => 0x3538,
-        86 => 0x3638,
-        87 => 0x3738,
-        88 => 0x3838,
-        89 => 0x3938,
-        90 => 0x3039,
-        91 => 0x3139,
-        92 => 0x3239,
-        93 => 0x3339,
-        94 => 0x3439,
-        95 => 0x3539,
-        96 => 0x3639,
-        97 => 0x3739,
-        98 => 0x3839,
-        99 => 0x3939,
-        _ => (0x3030 + 0x100 * (n % 10) + n / 10) as u64,
-    }
+    out[at] = digit(2 * n as usize);
+    out[at + 1] = digit(2 * n as usize + 1);
+}
+
+// One of the digits of all these numbers.
+fn digit(place: usize) -> u8
+    requires { place < 200 }
+    ensures { result ≡ slice_index PAIRS place }
+{
+    PAIRS[place]
 }

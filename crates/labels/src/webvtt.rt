@@ -1,29 +1,23 @@
 // WebVTT position labels (W3C, WebVTT): hours, `:MM:SS.mmm`. Positions are in milliseconds. Read are timestamps with any number of
 // zeros in front of the hours, or without hours, and cue timing lines without settings.
 
-ghost use Rattle.std.specs.Prelude.{◌≡◌};
-ghost use Rattle.refusal.specs.Outcome.{refused, number_outcome};
-ghost use Rattle.refusal.specs.Written.{write_outcome, bytes_written, written_buffer};
+ghost use Rattle.std.specs.Prelude.{◌≡◌, ◌<◌, IfSome};
+ghost use Rattle.refusal.specs.Outcome.{outcome};
+ghost use Rattle.refusal.specs.Written.{bytes_written, written_buffer};
 ghost use Rattle.labels.specs.Webvtt.{position_label};
 ghost use Rattle.labels.specs.Timestamps.{position_answer};
-ghost use Rattle.labels.specs.Cues.{cue_outcome, cue_line_answer};
-ghost use Rattle.labels.specs.Stamps.{Stamp, cue_of_stamps};
+ghost use Rattle.labels.specs.Cues.{cue_line_answer};
+ghost use Rattle.labels.specs.Stamps.{cue_of_stamps};
 
-use crate::timestamp::{BEYOND, MS_PER_HUNDRED_HOURS, WRONG};
+use crate::timestamp::MS_PER_HUNDRED_HOURS;
 use crate::{cue, long_position, short_position, timestamp};
-use refusal::{NumberAnswer, Refusal, WriteAnswer};
+use refusal::Refusal;
 
 // The start and the end of a cue, in milliseconds.
-#[derive(Clone, Copy)]
+#[derive(Clone, Copy, Debug, PartialEq, Eq)]
 pub struct Cue {
     pub start: i64,
     pub end: i64,
-}
-
-#[derive(Clone, Copy)]
-pub enum CueAnswer {
-    Value(Cue),
-    Refused(Refusal),
 }
 
 const LAST_POSITION: i64 = 359999999999;
@@ -31,14 +25,9 @@ const LAST_POSITION: i64 = 359999999999;
 // The last position whose hours have two digits.
 const LAST_SHORT: i64 = MS_PER_HUNDRED_HOURS as i64 - 1;
 
-// The bytes of a line with the arrow, one blank each side of it, and two timestamps of twelve bytes or of nine.
-const USUAL_LINE: usize = 29;
-
-const SHORTEST_LINE: usize = 23;
-
 // Writes the label of a position. 6 for a position outside the range, then 7 for a buffer shorter than the label.
-pub fn write_position(position: i64, out: &mut [u8]) -> WriteAnswer
-    ensures answer { write_outcome result ≡ bytes_written (position_label position) out.old }
+pub fn write_position(position: i64, out: &mut [u8]) -> Result<usize, Refusal>
+    ensures answer { outcome result ≡ bytes_written (position_label position) out.old }
     ensures buffer { out.new ≡ written_buffer (position_label position) out.old }
 {
     // Those with two digits of hours first.
@@ -46,100 +35,76 @@ pub fn write_position(position: i64, out: &mut [u8]) -> WriteAnswer
         return short_position::write(position as u64, out);
     }
     if numbers::outside(0, LAST_POSITION, position) {
-        return WriteAnswer::Refused(Refusal::PositionOutOfRange);
+        return Err(Refusal::PositionOutOfRange);
     }
     long_position::write(position as u64, out)
 }
 
 // The position of a timestamp. 13 for a text of a wrong shape, then 6 for a position above the limit.
-pub fn read_position(text: &[u8]) -> NumberAnswer
-    ensures { number_outcome result ≡ position_answer text.now }
+#[tactic(auto, using(crate::proofs::StampNumbers::answer_refused))]
+pub fn read_position(text: &[u8]) -> Result<i64, Refusal>
+    ensures { outcome result ≡ position_answer text.now }
 {
-    let position = timestamp::read(text);
-    if position >= WRONG {
-        return NumberAnswer::Refused(Refusal::MalformedTiming);
+    let position = timestamp::read(text)?;
+    if position > LAST_POSITION as u64 {
+        return Err(Refusal::PositionOutOfRange);
     }
-    if position >= BEYOND {
-        return NumberAnswer::Refused(Refusal::PositionOutOfRange);
-    }
-    NumberAnswer::Value(position as i64)
+    Ok(position as i64)
 }
 
 // The start and the end of a cue timing line. 13 for a line of a wrong shape, then 6 for a position above the limit, then 13 for an end
 // not later than its start.
-pub fn read_cue(line: &[u8]) -> CueAnswer
-    ensures { cue_outcome result ≡ cue_line_answer line.now }
+pub fn read_cue(line: &[u8]) -> Result<Cue, Refusal>
+    ensures { outcome result ≡ cue_line_answer line.now }
 {
-    // The two usual lines: timestamps of twelve or of nine bytes, and one space each side of the arrow.
-    if line.len() == USUAL_LINE {
-        if cue::has_gap(line, 12) {
-            let start = timestamp::full(line, 0);
-            let end = timestamp::full(line, 17);
-            if start | end < WRONG {
-                return cue_of(start, end);
-            }
-        }
-    }
-    if line.len() == SHORTEST_LINE {
-        if cue::has_gap(line, 9) {
-            let start = timestamp::short(line, 0);
-            let end = timestamp::short(line, 14);
-            if start | end < WRONG {
-                return cue_of(start, end);
-            }
+    // The two usual lines first, of timestamps of twelve bytes or of nine.
+    for size in [12, 9] {
+        if let Some((start, end)) = usual_positions(line, size) {
+            return cue_of(start, end);
         }
     }
     read_any_cue(line)
 }
 
-// The same of any line.
-fn read_any_cue(line: &[u8]) -> CueAnswer
-    ensures { cue_outcome result ≡ cue_line_answer line.now }
+// The positions of a line of two timestamps of that size with ` --> ` between them, if it is one.
+fn usual_positions(line: &[u8], size: usize) -> Option<(u64, u64)>
+    requires { size < 100 }
+    ensures { IfSome result (λ positions. cue_of_stamps positions.0 positions.1 ≡ cue_line_answer line.now) }
 {
-    if line.len() < SHORTEST_LINE {
-        return malformed();
+    if line.len() != size + 5 + size || !cue::has_gap(line, size) {
+        return None;
     }
-    let first_end = cue::first_end(line);
-    let arrow_at = cue::run_end(line, first_end, true);
-    if line.len() - arrow_at < 3 {
-        return malformed();
+    if let (Ok(start), Ok(end)) = (
+        timestamp::read(&line[..size]),
+        timestamp::read(&line[size + 5..]),
+    ) {
+        return Some((start, end));
     }
-    if !cue::has_arrow(line, arrow_at) {
-        return malformed();
-    }
-    let arrow_end = arrow_at + 3;
-    let second_at = cue::run_end(line, arrow_end, true);
-    if second_at == arrow_end {
-        return malformed();
-    }
-    cue_of(
-        timestamp::read_any(&line[..first_end]),
-        timestamp::read_any(&line[second_at..]),
-    )
+    None
 }
 
-// The cue of two positions, each of which may be WRONG or BEYOND.
-fn cue_of(start: u64, end: u64) -> CueAnswer
-    requires { Stamp start × Stamp end }
-    ensures { cue_outcome result ≡ cue_of_stamps start end }
+// The same of any line.
+fn read_any_cue(line: &[u8]) -> Result<Cue, Refusal>
+    ensures { outcome result ≡ cue_line_answer line.now }
 {
-    if start | end >= WRONG {
-        return malformed();
-    }
-    if start | end >= BEYOND {
-        return CueAnswer::Refused(Refusal::PositionOutOfRange);
+    let (first_end, second_at) = cue::cut(line)?;
+    let start = timestamp::read_any(&line[..first_end])?;
+    let end = timestamp::read_any(&line[second_at..])?;
+    cue_of(start, end)
+}
+
+// The cue of the positions of two timestamps. 6 for one above the limit, then 13 for an end not later than its start.
+fn cue_of(start: u64, end: u64) -> Result<Cue, Refusal>
+    ensures { outcome result ≡ cue_of_stamps start end }
+{
+    if start > LAST_POSITION as u64 || end > LAST_POSITION as u64 {
+        return Err(Refusal::PositionOutOfRange);
     }
     if start >= end {
-        return malformed();
+        return Err(Refusal::MalformedTiming);
     }
-    CueAnswer::Value(Cue {
+    Ok(Cue {
         start: start as i64,
         end: end as i64,
     })
-}
-
-fn malformed() -> CueAnswer
-    ensures { cue_outcome result ≡ refused 13 }
-{
-    CueAnswer::Refused(Refusal::MalformedTiming)
 }

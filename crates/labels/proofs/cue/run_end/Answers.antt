@@ -1,38 +1,19 @@
-use Rattle.std.proofs.Common.{refl, ◌∙◌, arith}
-use Rattle.labels.proofs.CueRuns.{run_stops, run_goes_on, run_ends}
+use Rattle.std.proofs.Common.{◌≡◌, ◌+◌, ◌-◌, ap, ◌∙◌, arith, drop, take, length, take_all, length-drop, rules}
+use borrow.Author.Tests.{tests}
+use Rattle.std.proofs.lemmas.Iterator.{YieldsList-from_slice}
+use Rattle.std.proofs.lemmas.Iterator.Search.{position_from_yields_List}
+use Rattle.labels.specs.Timings.{run, run_le}
+use Rattle.labels.proofs.CueRuns.{other, run_found}
 use Rattle.labels.proofs.cue.run_end.Goals as goal
-
-pub loop-i-init : goal.loop-i-init
-loop-i-init c = (c.requires, refl)
-
-pub bounds-line-i : goal.bounds-line-i
-bounds-line-i c = omega arith
-
-pub is_blank-requires : goal.is_blank-requires
-is_blank-requires c = tt
-
-pub returns-then-is_blank-blank : goal.returns-then-is_blank-blank
-returns-then-is_blank-blank c =
-    let s = c.before.before.before.before.before.before in
-    let l = c.loop-i in
-    let e = run_stops s.args.line.now l.i s.args.blank (omega arith) c.is_blank.ensures c.if-is_blank-blank.true in
-    (omega (arith, l.invariant.1, e), l.invariant.0)
-
-pub overflow_add-i : goal.overflow_add-i
-overflow_add-i c = omega arith
-
-pub loop-i-smaller : goal.loop-i-smaller
-loop-i-smaller c = omega arith
-
-pub loop-i-preserved : goal.loop-i-preserved
-loop-i-preserved c =
-    let s = c.before.before.before.before.before.before in
-    let l = c.loop-i in
-    let e = run_goes_on s.args.line.now l.i s.args.blank (omega arith) c.is_blank.ensures c.if-is_blank-blank.false in
-    (omega arith, l.invariant.1 ∙ omega (arith, e))
 
 pub returns : goal.returns
 returns c =
-    let l = c.loop-i in
-    let e = run_ends c.args.line.now l.i c.args.blank (omega arith) in
-    (omega (arith, l.invariant.1, e), l.invariant.0)
+    let a = c.args in
+    let line = a.line.now in
+    let rest = take (length line - a.«from») (drop a.«from» line) in
+    let e = position_from_yields_List (other a.blank) _ _ c.position.result c.position.ensures.ran (YieldsList-from_slice rest (search rules))
+    (λ x b q k. search (rules, tests)) in
+    let s : c.unwrap_or.result ≡ run a.blank (drop a.«from» line) =
+    c.unwrap_or.ensures ∙ run_found a.blank rest c.position.result e
+    ∙ ap (run a.blank) (take_all (length line - a.«from») (drop a.«from» line) (omega (arith, length-drop a.«from» line))) in
+    (ap (λ n. a.«from» + n) s, omega (arith, s, run_le a.blank (drop a.«from» line), length-drop a.«from» line))

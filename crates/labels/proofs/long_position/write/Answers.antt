@@ -1,19 +1,13 @@
-use Rattle.std.proofs.Common.{arith}
+use Rattle.std.proofs.Common.{◌+◌, arith}
 use Rattle.labels.specs.Webvtt.{position_text}
-use Rattle.text.proofs.Writing.{no_room, all_written}
+use Rattle.text.proofs.Writing.{all_written}
 use Rattle.labels.proofs.Positions.{length_position, clock_behind}
 use Rattle.labels.proofs.long_position.write.Goals as goal
 
-pub returns-then-out-length : goal.returns-then-out-length
-returns-then-out-length c =
-    let s = c.before.before.before in
-    let both = no_room (position_text s.args.n) s.args.out.now (omega (arith, length_position s.args.n, c.hour_digits-count.ensures.0)) in record { answer = both.0; buffer = both.1 }
-
-pub returns : goal.returns
-returns c =
-    let s = c.before.before.before.before.before.before.before.before.before.before.before in
-    let n = s.args.n in
+pub returns-clause-buffer : goal.returns-clause-buffer
+returns-clause-buffer c =
+    let a = c.args in
     let d = c.hour_digits-count.ensures.0 in
-    let l = length_position n in
-    let both = all_written (position_text n) s.args.out.now (omega arith) (omega arith)
-    (clock_behind n s.args.out.now d c.put_hours.ensures c.out-1.given (omega arith) c.put_clock.ensures) in record { answer = both.0; buffer = both.1 }
+    let l = length_position a.n in
+    let e = clock_behind a.n a.out.now d c.put_hours.ensures (omega arith) (omega arith) c.put_clock.ensures in
+    (all_written (position_text a.n) a.out.now {n = c.hour_digits-count.result + 10} (omega arith) (omega arith) e).1

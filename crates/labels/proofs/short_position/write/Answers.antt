@@ -1,16 +1,13 @@
-use Rattle.std.proofs.Common.{arith}
+use Rattle.std.proofs.Common.{ap, ◌∙◌, arith}
+use Rattle.text.specs.Filled.{filled}
+use Rattle.text.proofs.Writing.{all_written}
 use Rattle.labels.specs.Webvtt.{position_text}
-use Rattle.text.proofs.Writing.{no_room, all_written}
-use Rattle.labels.proofs.Positions.{short_length}
+use Rattle.labels.proofs.Positions.{short_length, short_text_lem}
 use Rattle.labels.proofs.short_position.write.Goals as goal
 
-pub returns-then-out-lt-LENGTH : goal.returns-then-out-lt-LENGTH
-returns-then-out-lt-LENGTH c =
-    let s = c.before.before in
-    let both = no_room (position_text s.args.n) s.args.out.now (omega (arith, short_length s.args.n s.requires, c.if-out-lt-LENGTH.true)) in record { answer = both.0; buffer = both.1 }
-
-pub returns : goal.returns
-returns c =
-    let s = c.before.before.before.before.before.before in
-    let l = short_length s.args.n s.requires in
-    let both = all_written (position_text s.args.n) s.args.out.now (omega (arith, l, c.if-out-lt-LENGTH.false)) (omega (arith, l)) c.put.ensures in record { answer = both.0; buffer = both.1 }
+pub returns-clause-buffer : goal.returns-clause-buffer
+returns-clause-buffer c =
+    let a = c.args in
+    let l = short_length a.n c.requires in
+    let e = c.put.ensures ∙ ap (λ text. filled 0 text a.out.now) (short_text_lem a.n c.requires) in
+    (all_written (position_text a.n) a.out.now {n = 12} (omega (arith, l)) (omega (arith, l)) e).1
