@@ -1,34 +1,16 @@
 -- A note and a list of numbers that a sheet can have, by their lengths.
-use Prim.Native.Nat.{ℕ, ◌+◌, ◌-◌, ◌*◌, ◌%◌, ◌≤◌}
-use mathlib.Core.Path.{◌≡◌, refl, sym, ap}
+use Prim.Native.Nat.{ℕ, ◌+◌, ◌*◌, ◌%◌, ◌≤◌}
+use mathlib.Core.Path.{◌≡◌, refl, ap}
 use mathlib.Core.List.{List}
 use mathlib.Core.Logic.{◌⊎◌, inl, inr}
 use mathlib.Core.Bool.{Bool, true, false, cond, not, ◌||◌}
-use native.Mathlib.Omega.{arith}
-use borrow.Author.Tests.{ltb-true, ltb-false, lt-ltb, le-ltb, eqb-true, eq-eqb, not-false}
+use borrow.Author.Tests.{ltb-false, le-ltb, eqb-true, eq-eqb, not-false}
 use lib.Dec.{eqb, ltb}
 use lib.ListN.{length}
 use Rattle.refusal.specs.Outcome.{value, refused}
 use Rattle.numbers.proofs.Bools.{or_no}
 use Rattle.sheet.specs.Sheet.{sheet_bytes}
 use Rattle.sheet.specs.Answers.{unfit, sheet_text}
-
-module _ (note numbers : ℕ) where
-  abbrev part_or_many : Bool
-  part_or_many = not (eqb (numbers % 8) 0) || ltb 8192 numbers
-
-  pub few_numbers : part_or_many ≡ false → numbers ≤ 8192
-  few_numbers h = ltb-false 8192 numbers (or_no (not (eqb (numbers % 8) 0)) (ltb 8192 numbers) h).1
-
-  pub part_or_many_lem : part_or_many ≡ true → true ≡ unfit note numbers
-  part_or_many_lem h = rw h
-
-  pub whole_records : part_or_many ≡ false → ltb (65524 - 4 * numbers) note ≡ unfit note numbers
-  whole_records h = rw h (go (ltb (65524 - 4 * numbers) note) refl)
-    where
-      go : (t : Bool) → ltb (65524 - 4 * numbers) note ≡ t → t ≡ ltb 65536 (note + 4 * numbers + 12)
-      go true e = sym (lt-ltb 65536 (note + 4 * numbers + 12) (omega (arith, ltb-true (65524 - 4 * numbers) note e)))
-      go false e = let l = few_numbers h in sym (le-ltb 65536 (note + 4 * numbers + 12) (omega (arith, ltb-false (65524 - 4 * numbers) note e)))
 
 -- what is known of lengths that fit
 pub record Fit (note numbers : ℕ) : Type 0 where
@@ -38,7 +20,7 @@ pub record Fit (note numbers : ℕ) : Type 0 where
 
 pub fit : (note numbers : ℕ) → unfit note numbers ≡ false → Fit note numbers
 fit note numbers h =
-    let t = or_no (part_or_many note numbers) (ltb 65536 (note + 4 * numbers + 12)) h in
+    let t = or_no (not (eqb (numbers % 8) 0) || ltb 8192 numbers) (ltb 65536 (note + 4 * numbers + 12)) h in
     let u = or_no (not (eqb (numbers % 8) 0)) (ltb 8192 numbers) t.0 in
     record {
       whole_are = eqb-true (numbers % 8) 0 (not-false _ u.0);

@@ -1,6 +1,6 @@
 -- The texts of a report's lines, and how long they are.
-use Prim.Native.Nat.{ℕ, zero, suc, ◌+◌, ◌-◌, ◌*◌, ◌≤◌, ◌<◌}
-use mathlib.Core.Path.{◌≡◌, refl, sym, ap, ◌∙◌}
+use Prim.Native.Nat.{ℕ, zero, suc, ◌+◌, ◌-◌, ◌*◌, ◌^◌, ◌≤◌, ◌<◌}
+use mathlib.Core.Path.{◌≡◌, refl, ap, ◌∙◌}
 use mathlib.Core.List.{List, [], ◌++◌}
 use native.Mathlib.Decide.{dec_lt}
 use native.Mathlib.Numerals.{add-one}
@@ -10,19 +10,16 @@ use lib.IntN.{pos}
 use lib.ListN.{length, length-append}
 use Rattle.refusal.specs.Outcome.{Outcome, value, refused, refused_at}
 use Rattle.text.specs.Decimal.{decimal}
+use Rattle.text.specs.Filled.{Stored}
 use Rattle.text.proofs.Decimal.{decimal_short}
-use Rattle.constants.specs.Answers.{Acceptance, claim_outcome}
-use Rattle.constants.specs.declared.ClaimAnswer.{ClaimAnswer}
+use Rattle.text.proofs.Filled.{Puts, put_stored, put_then}
+use Rattle.constants.specs.Answers.{Acceptance}
 use Rattle.constants.proofs.Answers.{claim_cases}
 use Rattle.sheet.specs.declared.Claim.{Claim}
 use Rattle.sheet.specs.declared.Contents.{Contents}
 use Rattle.sheet.specs.Answers.{read_answer, claim_in_place, verdict, check_answer}
 use Rattle.sheet.specs.Report.{space, newline, verdict_text, line, lines_of, report_text}
 use Rattle.sheet.proofs.Trailer.{opened, refused_so, check_here}
-
--- the text of an answer that is known
-pub text_of : {answer known : ClaimAnswer} → answer ≡ known → verdict_text (claim_outcome known) ≡ verdict_text (claim_outcome answer)
-text_of e = sym (ap (λ a. verdict_text (claim_outcome a)) e)
 
 pub least_length : (number n : ℕ) → length (verdict_text (refused_at number n)) ≡ length (decimal number) + 1 + length (decimal n)
 least_length number n = length-append (decimal number ++ space) (decimal n) ∙ omega (arith, length-append (decimal number) space)
@@ -31,6 +28,14 @@ pub line_length : (place : ℕ) (o : Outcome Acceptance) → length (line place 
 line_length place o =
     length-append (decimal place ++ space ++ verdict_text o) newline
     ∙ omega (arith, length-append (decimal place ++ space) (verdict_text o), length-append (decimal place) space)
+
+-- two texts and a space between them, put one behind the other
+pub put_spaced :
+    (at : ℕ) (a b before : List ℕ) {one two after : List ℕ} {p q r : ℕ} → at + length (a ++ space ++ b) ≤ length before → Puts at a before one p →
+    Puts p space one two q → Puts q b two after r → Stored at (a ++ space ++ b) before after r
+put_spaced at a b before h f g i =
+    let both : at + length (a ++ space) ≤ length before = omega (arith, h, length-append (a ++ space) b) in
+    put_then at (a ++ space) b (put_then at a space (put_stored at a before (omega (arith, both, length-append a space)) f) both g) h i
 
 -- ---- the lines one behind the other
 
@@ -42,7 +47,7 @@ pub no_lines : (sheet : List ℕ) → [] ≡ lines_of sheet 0
 unfolding lines_of
 no_lines sheet = refl
 
-next_length :
+pub next_length :
     (sheet : List ℕ) (i : ℕ) → length (lines_of sheet (suc i)) ≡ length (lines_of sheet i) + length (line i (check_answer sheet (pos i)))
 unfolding lines_of
 next_length sheet i = length-append (lines_of sheet i) (line i (check_answer sheet (pos i)))
@@ -81,22 +86,21 @@ most_next i h = go (dec_lt i 10) (dec_lt i 100) (dec_lt i 1000)
     go (no k) (no l) (no m) = omega (arith, decimal_short i 4 (omega arith) (omega arith))
 
 module _ (sheet : List ℕ) {contents : Contents} (e : read_answer sheet ≡ value contents) where
+  -- the verdict on a record
+  short : (i : ℕ) → i < contents.records → length (verdict_text (check_answer sheet (pos i))) ≤ 13
+  short i h = let answer = check_here sheet e i h refl in omega (arith, verdict_short (claim_in_place sheet contents i), ap (λ o. length (verdict_text o)) answer)
+
+  pub line_short : (i : ℕ) → i < contents.records → length (line i (check_answer sheet (pos i))) ≤ 19
+  line_short i h =
+      let o = opened sheet e in
+      let few : i < 10 ^ 4 = omega (arith, o.records_are, o.records_le) in
+      omega (arith, line_length i (check_answer sheet (pos i)), short i h, decimal_short i 4 (omega arith) few)
+
   up_to : (i : ℕ) → i ≤ contents.records → length (lines_of sheet i) ≤ most i
   up_to zero h = omega (arith, ap length (no_lines sheet))
   up_to (suc i) h =
       let o = opened sheet e in
-      let answer = check_here sheet e i h refl in
-      let short = verdict_short (claim_in_place sheet contents i) in
-      let same = ap (λ o. length (verdict_text o)) answer in
-      omega (
-        arith,
-        up_to i (omega arith),
-        next_length sheet i,
-        line_length i (check_answer sheet (pos i)),
-        most_next i (omega (arith, o.records_are, o.records_le)),
-        short,
-        same,
-      )
+      omega (arith, up_to i (omega arith), next_length sheet i, line_length i (check_answer sheet (pos i)), most_next i (omega (arith, o.records_are, o.records_le)), short i h)
 
   pub lines_short : length (lines_of sheet contents.records) ≤ 18346
   lines_short = let o = opened sheet e in omega (arith, up_to contents.records (omega arith), o.records_are, o.records_le)

@@ -1,24 +1,20 @@
 -- Numbers as bytes, four to a number.
-use Prim.Native.Nat.{ℕ, suc, ◌+◌, ◌*◌, ◌/◌, ◌%◌, ◌<◌}
+use Prim.Native.Nat.{ℕ, ◌+◌, ◌-◌, ◌≤◌, ◌*◌, ◌/◌, ◌%◌, ◌<◌}
 use mathlib.Core.Path.{◌≡◌, refl, sym, ap, ap₂, ◌∙◌}
 use mathlib.Core.List.{List, [], ◌∷◌, ◌++◌, append_assoc, append-nil}
 use native.Mathlib.Numerals.{add-one}
 use native.Mathlib.Omega.{arith}
-use lib.IntN.{pos}
-use lib.ListN.{length, get_or, set, take, length-append}
-use lib.Seq.{take-suc, length-take-le}
-use mir.Syntax.{w32, w64}
-use mir.Val.{Fits, to_z}
-use mir.Facts.{to_z_pos}
+use lib.ListN.{length, get_or, take, length-append, take-append-drop}
+use lib.Seq.{sets, sets-eq, take-suc, length-take-le}
+use mir.Syntax.{w32}
+use borrow.Rule.Slice.PartMut.{put_mid}
+use Rattle.std.specs.Int.{to_le_bytes}
+use Rattle.std.proofs.lemmas.Slice.{take-put_mid, drop-put_mid}
 use Rattle.text.specs.Words.{bytes_of}
 use Rattle.text.specs.Filled.{filled, Stored}
 use Rattle.text.proofs.Words.{length_bytes}
 use Rattle.text.proofs.Filled.{filled_then}
 use Rattle.sheet.specs.Sheet.{numbers_bytes, trailer, sheet_bytes}
-
--- a number of four bytes, cast to an i64
-pub number_cast : {n : ℕ} → Fits w32 n → to_z w64 n ≡ pos n
-number_cast {n} f = to_z_pos w64 {n = n} (omega (arith, f.fits))
 
 pub numbers_append : (a b : List ℕ) → numbers_bytes (a ++ b) ≡ numbers_bytes a ++ numbers_bytes b
 numbers_append [] b = refl
@@ -28,17 +24,17 @@ pub numbers_length : (ns : List ℕ) → length (numbers_bytes ns) ≡ 4 * lengt
 numbers_length [] = refl
 numbers_length (n ∷ ns) = length-append (bytes_of 4 n) (numbers_bytes ns) ∙ omega (arith, length_bytes 4 n, numbers_length ns)
 
--- four stores of bytes are a number's
-pub four_stored :
-    (at n : ℕ) (b : List ℕ) →
-    set (set (set (set b at (n % 256)) (at + 1) (n / 256 % 256)) (at + 2) (n / 65536 % 256)) (at + 3) (n / 16777216 % 256) ≡ filled at (bytes_of 4 n) b
+-- four bytes that are copied into a part of a buffer are a number's
+pub number_stored :
+    (at n : ℕ) (before bytes : List ℕ) → at + 4 ≤ length before → bytes ≡ to_le_bytes w32 n → put_mid at (at + 4 - at) before bytes ≡ filled at (bytes_of 4 n) before
 unfolding filled
-four_stored at n b =
-    let e1 : at + 1 ≡ suc at = add-one at in
-    let e2 : at + 2 ≡ suc (suc at) = omega arith in
-    let e3 : at + 3 ≡ suc (suc (suc at)) = omega arith in
-    let e : n ≡ n / 1 = omega arith in
-    rw (e1, e2, e3) (ap (λ m. set (set (set (set b at (m % 256)) (suc at) (n / 256 % 256)) (suc (suc at)) (n / 65536 % 256)) (suc (suc (suc at))) (n / 16777216 % 256)) e)
+number_stored at n before bytes h e =
+    let l : length bytes ≡ 4 = ap length e in
+    let all = put_mid at (at + 4 - at) before bytes in
+    let same : bytes ≡ bytes_of 4 n = e ∙ ap (λ m. m % 256 ∷ n / 256 % 256 ∷ n / 65536 % 256 ∷ n / 16777216 % 256 ∷ []) (omega arith) in
+    sym (take-append-drop (at + length bytes) all)
+    ∙ ap₂ ◌++◌ (take-put_mid at (at + 4 - at) before bytes (at + length bytes) refl (omega arith)) (drop-put_mid at (at + 4 - at) before bytes (at + length bytes) (omega arith) (omega arith) (omega arith))
+    ∙ sym (sets-eq bytes before at (omega arith)) ∙ ap (sets before at) same
 
 -- one more number behind those that are stored
 pub one_more_number :

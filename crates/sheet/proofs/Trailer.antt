@@ -5,7 +5,7 @@ use mathlib.Core.Logic.{◌⊎◌, inl, inr}
 use mathlib.Core.Bool.{Bool, true, false, cond, not, ◌||◌}
 use mathlib.Core.List.{List}
 use native.Mathlib.Omega.{arith}
-use borrow.Author.Tests.{ltb-false, eqb-true, eq-eqb, not-false, le-ltb, lt-leb}
+use borrow.Author.Tests.{ltb-false, eqb-true, eq-eqb, not-false, lt-ltb, le-ltb, lt-leb}
 use lib.Dec.{eqb, leb, ltb}
 use lib.IntN.{ℤ, pos, nat_abs}
 use lib.ListN.{length}
@@ -13,40 +13,37 @@ use lib.Signed.{lt_z}
 use Rattle.refusal.specs.Outcome.{Outcome, value, refused, refused_at, and_then}
 use Rattle.refusal.proofs.Outcomes.{clash}
 use Rattle.numbers.proofs.Bools.{or_no}
-use Rattle.constants.specs.Answers.{Acceptance}
+use Rattle.constants.specs.declared.Constants.{Constants}
+use Rattle.constants.specs.Answers.{Acceptance, bound_answer}
 use Rattle.constants.proofs.Answers.{claim_cases}
 use Rattle.sheet.specs.declared.Contents.{Contents}
 use Rattle.sheet.specs.declared.Claim.{Claim}
-use Rattle.sheet.specs.Answers.{offset, records, whole, misfits, no_sheet, read_answer, claim_in_place, record_in_place, record_answer, verdict, check_answer}
+use Rattle.sheet.specs.Answers.{offset, records, whole, misfits, no_sheet, read_answer, claim_in_place, record_in_place, record_answer, constants_of, verdict, check_answer}
 
 abbrev pub contents_of : (records offset : ℕ) → Contents
 contents_of records offset = record { records = records; offset = offset }
 
 module _ (sheet : List ℕ) where
-  abbrev pub bad_length : Bool
-  bad_length = ltb 65536 (length sheet) || ltb (length sheet) 12
-
-  pub length_in : bad_length ≡ false → (length sheet ≤ 65536) × (12 ≤ length sheet)
-  length_in h =
-      let t = or_no (ltb 65536 (length sheet)) (ltb (length sheet) 12) h in
-      (ltb-false 65536 (length sheet) t.0, ltb-false (length sheet) 12 t.1)
-
   -- the answer that the tests lead to
-  pub bad_length_lem : bad_length ≡ true → refused 17 ≡ read_answer sheet
+  pub too_long : 65536 < length sheet → refused 17 ≡ read_answer sheet
   unfolding read_answer no_sheet
-  bad_length_lem h = rw h
+  too_long h = rw (lt-ltb 65536 (length sheet) h)
 
-  module _ (h : bad_length ≡ false) {o r w : ℕ} (eo : o ≡ offset sheet) (er : r ≡ records sheet) (ew : w ≡ whole sheet) where
+  pub too_short : length sheet ≤ 65536 → length sheet < 12 → refused 17 ≡ read_answer sheet
+  unfolding read_answer no_sheet
+  too_short h k = rw (le-ltb 65536 (length sheet) h, lt-ltb (length sheet) 12 k)
+
+  module _ (h : length sheet ≤ 65536) (k : 12 ≤ length sheet) {o r w : ℕ} (eo : o ≡ offset sheet) (er : r ≡ records sheet) (ew : w ≡ whole sheet) where
     misfits_is : misfits o r w (length sheet) ≡ misfits (offset sheet) (records sheet) (whole sheet) (length sheet)
     misfits_is = rw (eo, er, ew)
 
     pub bad_trailer : {t : Bool} → t ≡ misfits o r w (length sheet) → t ≡ true → refused 17 ≡ read_answer sheet
     unfolding read_answer no_sheet
-    bad_trailer e k = let f = sym misfits_is ∙ sym e ∙ k in rw (h, f)
+    bad_trailer e t = let f = sym misfits_is ∙ sym e ∙ t in rw (le-ltb 65536 (length sheet) h, le-ltb (length sheet) 12 k, f)
 
     pub good_trailer : {t : Bool} → t ≡ misfits o r w (length sheet) → t ≡ false → value (contents_of r o) ≡ read_answer sheet
     unfolding read_answer no_sheet
-    good_trailer e k = let f = sym misfits_is ∙ sym e ∙ k in rw (h, f) (ap₂ (λ r o. value (contents_of r o)) er eo)
+    good_trailer e t = let f = sym misfits_is ∙ sym e ∙ t in rw (le-ltb 65536 (length sheet) h, le-ltb (length sheet) 12 k, f) (ap₂ (λ r o. value (contents_of r o)) er eo)
 
 -- what is known of a sheet that was read
 pub record Opened (sheet : List ℕ) (contents : Contents) : Type 0 where
@@ -66,14 +63,15 @@ opened sheet {contents} = go (no_sheet sheet) refl
     go true h e = clash (cc)
     go false h e =
         let same : contents ≡ contents_of (records sheet) (offset sheet) = cc in
-        let t = or_no (bad_length sheet) (misfits (offset sheet) (records sheet) (whole sheet) (length sheet)) h in
+        let t = or_no (ltb 65536 (length sheet) || ltb (length sheet) 12) (misfits (offset sheet) (records sheet) (whole sheet) (length sheet)) h in
+        let n = or_no (ltb 65536 (length sheet)) (ltb (length sheet) 12) t.0 in
         let u = or_no (ltb 1024 (records sheet) || not (eqb (whole sheet) (length sheet))) _ t.1 in
         let v = or_no (ltb 1024 (records sheet)) _ u.0 in
         record {
           is_sheet = h;
           records_are = ap (λ c. c.records) same;
           offset_is = ap (λ c. c.offset) same;
-          length_le = (length_in sheet t.0).0;
+          length_le = ltb-false 65536 (length sheet) n.0;
           records_le = ltb-false 1024 (records sheet) v.0;
           whole_is = eqb-true (whole sheet) (length sheet) (not-false _ v.1);
           no_gap = eqb-true (offset sheet + 32 * records sheet + 12) (length sheet) (not-false _ u.1);
@@ -121,13 +119,7 @@ module _ (sheet : List ℕ) where
   unfolding record_answer
   record_in e place = sym (ap (λ o. and_then o (λ contents. record_in_place sheet contents place)) e)
 
-  pub below_zero : (contents : Contents) (place : ℤ) → lt_z place (pos 0) ≡ true → refused 17 ≡ record_in_place sheet contents place
-  below_zero contents place h = rw h
-
   module _ (contents : Contents) (place : ℤ) (h : lt_z place (pos 0) ≡ false) where
-    pub beyond_last : leb contents.records (nat_abs place) ≡ true → refused 17 ≡ record_in_place sheet contents place
-    beyond_last k = rw (h, k)
-
     pub in_place : leb contents.records (nat_abs place) ≡ false → value (claim_in_place sheet contents (nat_abs place)) ≡ record_in_place sheet contents place
     in_place k = rw (h, k)
 
@@ -145,6 +137,12 @@ module _ (sheet : List ℕ) where
       o ≡ verdict (claim_in_place sheet contents place) → o ≡ check_answer sheet (pos place)
   check_here {contents} e place h f =
       f ∙ check_in (pos place) (in_place contents (pos place) (le-ltb place 0 (omega arith)) (lt-leb contents.records place h) ∙ record_in e (pos place))
+
+-- the checker's answer to the constants and the bound of a claim
+pub judged :
+    (claim : Claim) (k : Constants) (bound : ℤ) → k ≡ constants_of claim → bound ≡ pos claim.bound → bound_answer k.a k.b k.d k.m k.c k.k k.t bound ≡ verdict claim
+unfolding verdict
+judged claim k bound e f = ap₂ (λ k bound. bound_answer k.a k.b k.d k.m k.c k.k k.t bound) e f
 
 -- a least n that is handed back is one of 32 bits
 verdict_least : (claim : Claim) (number n : ℕ) → verdict claim ≡ refused_at number n → n < 4294967296

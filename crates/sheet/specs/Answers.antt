@@ -1,17 +1,13 @@
 -- What each call on a sheet answers: document 02, request Nine.
 use Rattle.std.specs.Prelude.{ℕ, ◌+◌, ◌-◌, ◌*◌, ◌%◌, Bool, cond, not, ◌||◌, List, eqb, leb, ltb, ℤ, pos, nat_abs, length, get_or}
 use Rattle.std.specs.Int.Signed.{lt_z}
-use Rattle.refusal.specs.Numbers.{refusal_number}
 use Rattle.refusal.specs.Outcome.{Outcome, value, refused, and_then}
 use Rattle.text.specs.Words.{word, part_of}
 use Rattle.constants.specs.Answers.{Acceptance, bound_answer}
+use Rattle.constants.specs.declared.Constants.{Constants}
 use Rattle.sheet.specs.Sheet.{numbers_each, record_length, trailer_length, sheet_length, sheet_bytes, most_bytes, most_records}
 use Rattle.sheet.specs.declared.Contents.{Contents}
 use Rattle.sheet.specs.declared.Claim.{Claim}
-use Rattle.sheet.specs.declared.ReadAnswer.{ReadAnswer}
-use Rattle.sheet.specs.declared.ReadAnswer.TheVariants as R
-use Rattle.sheet.specs.declared.RecordAnswer.{RecordAnswer}
-use Rattle.sheet.specs.declared.RecordAnswer.TheVariants as C
 
 -- the number of the four bytes from byte `at` on
 unfoldable pub number_at : (sheet : List ℕ) (at : ℕ) → ℕ
@@ -67,6 +63,10 @@ record_in_place sheet contents place =
 unfoldable pub record_answer : (sheet : List ℕ) (place : ℤ) → Outcome Claim
 record_answer sheet place = and_then (read_answer sheet) (λ contents. record_in_place sheet contents place)
 
+-- the constants of a claim
+abbrev pub constants_of : Claim → Constants
+constants_of r = record { a = pos r.a; b = pos r.b; d = pos r.d; m = pos r.m; c = pos r.c; k = pos r.k; t = pos r.t }
+
 -- "Each record otherwise gets accepted, 9, 10 with its least n, or 11": the checker's own answer to the claim of its numbers
 unfoldable pub verdict : Claim → Outcome Acceptance
 verdict r = bound_answer (pos r.a) (pos r.b) (pos r.d) (pos r.m) (pos r.c) (pos r.k) (pos r.t) (pos r.bound)
@@ -96,12 +96,3 @@ unfit note numbers =
 -- the writer's text; 7 for a buffer that is too short for it comes after
 unfoldable pub sheet_text : (note numbers : List ℕ) → Outcome (List ℕ)
 sheet_text note numbers = cond (unfit (length note) (length numbers)) (refused 17) (value (sheet_bytes note numbers))
-
--- the number and value of each case of the code's answers
-abbrev pub read_outcome : ReadAnswer → Outcome Contents
-read_outcome (R.Value contents) = value contents
-read_outcome (R.Refused why) = refused (refusal_number why)
-
-abbrev pub record_outcome : RecordAnswer → Outcome Claim
-record_outcome (C.Value r) = value r
-record_outcome (C.Refused why) = refused (refusal_number why)

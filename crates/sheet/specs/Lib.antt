@@ -1,3 +1,4 @@
 pub mod Sheet
 pub mod Answers
 pub mod Report
+pub mod Opened

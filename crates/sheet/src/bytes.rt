@@ -17,6 +17,7 @@ pub fn number_at(sheet: &[u8], at: usize) -> u32
 }
 
 // The eight numbers from byte `at` on.
+#[tactic(auto, unfolding(crate::specs::Answers::claim_at))]
 pub fn claim_at(sheet: &[u8], at: usize) -> Claim
     requires { at + 32 ≤ length sheet.now }
     ensures { result ≡ claim_at sheet.now at }
@@ -33,27 +34,22 @@ pub fn claim_at(sheet: &[u8], at: usize) -> Claim
     }
 }
 
+// Stores some numbers from byte `at` on, each as four bytes.
+fn put_numbers(out: &mut [u8], at: usize, numbers: &[u32])
+    requires { at + 4 * length numbers.now ≤ length out.old }
+    ensures { out.new ≡ filled at (numbers_bytes numbers.now) out.old }
+{
+    for (i, n) in numbers.iter().enumerate() {
+        put_number(out, at + 4 * i, *n);
+    }
+}
+
 // Stores a number as four bytes from byte `at` on.
 fn put_number(out: &mut [u8], at: usize, n: u32)
     requires { at + 4 ≤ length out.old }
     ensures { out.new ≡ filled at (bytes_of 4 n) out.old }
 {
-    out[at] = (n % 0x100) as u8;
-    out[at + 1] = (n / 0x100 % 0x100) as u8;
-    out[at + 2] = (n / 0x1_0000 % 0x100) as u8;
-    out[at + 3] = (n / 0x100_0000 % 0x100) as u8;
-}
-
-// Stores some numbers from byte `at` on.
-fn put_numbers(out: &mut [u8], at: usize, numbers: &[u32])
-    requires { at + 4 * length numbers.now ≤ length out.old }
-    ensures { out.new ≡ filled at (numbers_bytes numbers.now) out.old }
-{
-    let mut i = 0;
-    while i < numbers.len() {
-        put_number(out, at + 4 * i, numbers[i]);
-        i += 1;
-    }
+    out[at..at + 4].copy_from_slice(&n.to_le_bytes());
 }
 
 // Writes a sheet to the front of a buffer.

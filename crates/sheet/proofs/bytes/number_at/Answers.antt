@@ -5,6 +5,4 @@ use Rattle.sheet.proofs.bytes.number_at.Goals as goal
 
 pub returns : goal.returns
 unfolding number_at
-returns c =
-    let s = c.before.before.before.before.before.before in
-    c.four_bytes.ensures ∙ four_word s.args.sheet.now s.args.at s.requires
+returns c = c.four_bytes.ensures ∙ four_word c.args.sheet.now c.args.at c.requires
