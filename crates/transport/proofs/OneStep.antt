@@ -1,8 +1,7 @@
 -- The step to a value: there is one, and one only.
-use Prim.Native.Nat.{ℕ, zero, suc, ◌+◌, ◌-◌, ◌%◌, ◌≤◌, ◌<◌}
-use mathlib.Core.Path.{◌≡◌, refl, sym, ap, ap₂, ◌∙◌}
+use Prim.Native.Nat.{ℕ, zero, suc, ◌+◌, ◌-◌, ◌%◌}
+use mathlib.Core.Path.{◌≡◌, refl, sym, ap, ◌∙◌}
 use mathlib.Core.Bool.{true, false}
-use native.Mathlib.Nat.{mod-eq_of_lt}
 use native.Mathlib.Omega.{arith}
 use lib.Dec.{lit<}
 use lib.IntN.{ℤ, pos, negsuc, neg_ℤ, sub_ℕ, ◌+ℤ◌, ◌-ℤ◌}
@@ -22,10 +21,10 @@ remainder_neg (negsuc a) = omega arith
 
 module _ (position value : ℤ) where
   -- how far the step lies above its least, by the two remainders
-  abbrev aim : ℕ
+  abbrev pub aim : ℕ
   aim = (floor_remainder value wrap + (wrap + half) - floor_remainder position wrap) % wrap
 
-  lead : lead_to position value ≡ aim
+  pub lead : lead_to position value ≡ aim
   lead =
       let a = remainder_add wrap (lit< tt) (value -ℤ position) (pos half) in
       let b = remainder_add wrap (lit< tt) value (neg_ℤ position) in
@@ -68,12 +67,6 @@ module _ (position value : ℤ) where
           let m : r + suc a ≡ half = omega arith in
           sym (sub_neg r half (omega arith) ∙ ap negsuc (omega arith))
 
--- the same of natural numbers, of which the value is below `wrap`
-pub lead_of : (p l v : ℕ) → l ≡ p % wrap → v < wrap → lead_to (pos p) (pos v) ≡ (v + (wrap + half) - l) % wrap
-lead_of p l v e h =
-    let small : v % wrap ≡ v = mod-eq_of_lt h in
-    lead (pos p) (pos v) ∙ ap₂ (λ x y. (x + (wrap + half) - y) % wrap) small (sym e)
-
 -- a position and a difference
 add_sub : (p a b : ℕ) → pos p +ℤ sub_ℕ a b ≡ sub_ℕ (p + a) b
 add_sub p a b =
@@ -87,9 +80,3 @@ add_sub p a b =
 module _ (p v a : ℕ) (e : a ≡ p + lead_to (pos p) (pos v)) where
   pub ahead_is : pos p +ℤ step_to (pos p) (pos v) ≡ sub_ℕ a half
   ahead_is = add_sub p (lead_to (pos p) (pos v)) half ∙ ap (λ x. sub_ℕ x half) (sym e)
-
-  -- the position there leaves the value
-  pub next_value : v < wrap → half ≤ a → v ≡ (a - half) % wrap
-  next_value small h =
-      let f = ap (λ z. floor_remainder z wrap) (sym (ahead_is ∙ sub_pos a half h)) ∙ (step_exists (pos p) (pos v)).fits in
-      omega (arith, f)

@@ -1,16 +1,15 @@
 -- What the theorems speak of: a follower's answers to a list of values, and runs of true positions.
-use Rattle.std.specs.Prelude.{◌≡◌, true, false, List, [], ◌∷◌, ℤ, pos, neg_ℤ, ◌-ℤ◌}
+use Rattle.std.specs.Prelude.{◌≡◌, true, false, List, [], ◌∷◌, Option, ℤ, pos, neg_ℤ, ◌-ℤ◌}
 use Rattle.std.specs.Int.Signed.{lt_z}
 use Rattle.refusal.specs.Outcome.{Outcome}
 use Rattle.numbers.specs.Floor.{floor_remainder}
 use Rattle.numbers.specs.Range.{outside}
 use Rattle.transport.specs.Wraps.{wrap, half, last_position}
 use Rattle.transport.specs.Answers.{follow_answer, clock_after}
-use Rattle.transport.specs.declared.Clock.{Clock}
 use Rattle.transport.specs.declared.Position.{Position}
 
 -- the answer to each value, from the clock that the value before it left
-unfoldable pub answers_to : Clock → (values : List ℤ) → List (Outcome Position)
+unfoldable pub answers_to : Option ℤ → (values : List ℤ) → List (Outcome Position)
 answers_to clock [] = []
 answers_to clock (heard ∷ values) = follow_answer clock heard ∷ answers_to (clock_after clock heard) values
 

@@ -1,9 +1,7 @@
 -- The clock of a transport stream, 33 bits wide, and the step from a position to the next value: document 02, request Five.
-use Rattle.std.specs.Prelude.{ℕ, ◌-◌, ◌^◌, ◌≡◌, true, false, ℤ, pos, neg_ℤ, ◌+ℤ◌, ◌-ℤ◌}
+use Rattle.std.specs.Prelude.{ℕ, ◌-◌, ◌^◌, ◌≡◌, true, false, Option, None, Some, ℤ, pos, neg_ℤ, ◌+ℤ◌, ◌-ℤ◌}
 use Rattle.std.specs.Int.Signed.{lt_z}
 use Rattle.numbers.specs.Floor.{floor_quotient, floor_remainder}
-use Rattle.transport.specs.declared.Clock.{Clock}
-use Rattle.transport.specs.declared.Clock.TheVariants.{Nothing, At}
 use Rattle.transport.specs.declared.Position.{Position}
 
 -- the values are 0 to 2^33 - 1, and after the last one comes 0 again
@@ -35,9 +33,9 @@ abbrev pub step_to : (position value : ℤ) → ℤ
 step_to position value = pos (lead_to position value) -ℤ pos half
 
 -- "The first value is taken as it is. After that", the position and its step
-abbrev pub reached : Clock → (value : ℤ) → ℤ
-reached Nothing value = value
-reached (At position) value = position +ℤ step_to position value
+abbrev pub reached : Option ℤ → (value : ℤ) → ℤ
+reached None value = value
+reached (Some position) value = position +ℤ step_to position value
 
 -- "its position in milliseconds, ticks divided by 90, rounded down"
 abbrev pub milliseconds_of : (ticks : ℤ) → ℤ

@@ -1,17 +1,12 @@
--- The batch from `i` on, at the position, is the batch from the start on; `last` is what the position leaves.
-use Prim.Native.Nat.{◌-◌, ◌%◌, ◌≤◌, ◌^◌}
+-- The batch from the next value on, at the position that is reached, is the batch from the start on.
+use Prim.Native.Nat.{◌+◌, ◌≤◌}
 use mathlib.Core.Path.{◌≡◌}
 use lib.IntN.{pos}
-use lib.ListN.{length}
-use Rattle.transport.specs.Wraps.{wrap}
+use Rattle.std.specs.Prelude.{Some}
 use Rattle.transport.specs.Batches.{going_on}
-use Rattle.transport.specs.declared.Clock.TheVariants.{At}
 use Rattle.transport.proofs.steps.run.Given as goal
 
-abbrev pub invariant-loop-i : goal.invariant-loop-i
-invariant-loop-i l =
-    (l.i ≤ length l.values) × (l.skipped ≤ l.i) × (l.at ≤ 2 ^ 53) × (l.last ≡ l.at % wrap)
-    × (going_on (At (pos l.at)) l.skipped l.i l.values ≡ going_on (At (pos l.position)) l.skipped-2 l.start l.values)
-
-abbrev pub decreases-loop-i : goal.decreases-loop-i
-decreases-loop-i l = length l.values - l.i
+abbrev pub invariant-loop-heard : goal.invariant-loop-heard
+invariant-loop-heard l =
+    (l.skipped ≤ l.start + l.heard-index)
+    × (going_on (Some (pos l.reached.ticks)) l.skipped (l.start + l.heard-index) l.values ≡ going_on (Some (pos l.fn.from.ticks)) l.start l.start l.values)
