@@ -1,6 +1,6 @@
 -- The natural numbers that an answer hands back are no larger than what was lent or asked for, so each fits an i64.
 use Prim.Native.Nat.{ℕ, ◌<◌, ◌^◌}
-use mathlib.Core.Path.{◌≡◌, refl, sym, ◌∙◌, subst}
+use mathlib.Core.Path.{◌≡◌, refl, sym, ap, ◌∙◌, subst}
 use mathlib.Core.Bool.{Bool, true, false, cond, not, ◌||◌}
 use mathlib.Core.List.{List}
 use native.Mathlib.Omega.{arith}
@@ -8,29 +8,24 @@ use borrow.Author.Tests.{ltb-true}
 use lib.Dec.{eqb, ltb}
 use lib.IntN.{ℤ, pos, negsuc, nat_abs}
 use lib.ListN.{length}
-use lib.Signed.{mag}
 use mir.Syntax.{w64}
 use mir.Val.{SFits}
-use mir.Facts.{to_z-of_z}
-use Rattle.refusal.specs.Outcome.{Outcome, value, refused, refused_at}
-use Rattle.numbers.proofs.Machine.{read}
+use Rattle.std.specs.Prelude.{Option, Some, Result, Ok, Err}
+use Rattle.refusal.specs.Numbers.{refusal_number}
+use Rattle.refusal.specs.Outcome.{Outcome, value, refused, refused_at, outcome, outcome_at}
+use Rattle.refusal.specs.declared.Refusal.{Refusal}
+use Rattle.refusal.specs.declared.RefusalAt.{RefusalAt}
+use Rattle.refusal.specs.declared.RefusalAt.TheVariants.{At}
 use Rattle.refusal.proofs.Outcomes.{clash}
 use Rattle.instant.specs.Answers.{first_bad, first_fall, index_days_answer}
-use Rattle.refusal.specs.Written.{bytes_written}
-use Rattle.text.proofs.Writing.{bytes_within}
-use Rattle.constants.specs.Least.{Found, at, least_below}
+use Rattle.constants.specs.Least.{at, least_below}
 use Rattle.constants.specs.Limits.{outside_limits, end_outside}
-use Rattle.constants.specs.Answers.{Acceptance, difference, difference_answer, bound_answer}
+use Rattle.constants.specs.Answers.{difference, difference_answer, bound_answer, search_outcome, claim_outcome}
 use Rattle.constants.proofs.Least.{finds_at}
 use Rattle.constants.proofs.Answers.{claim_cases}
 use Rattle.sheet.specs.Answers as sheets
 use Rattle.sheet.specs.declared.Contents.{Contents}
 use Rattle.sheet.proofs.Trailer.{opened, check_least}
-
-pub bytes_fit :
-    (label : Outcome (List ℕ)) (buffer : List ℕ) → length buffer < 2 ^ 63 → {outcome : Outcome ℕ} → outcome ≡ bytes_written label buffer →
-    (n : ℕ) → outcome ≡ value n → n < 2 ^ 63
-bytes_fit label buffer small same n e = let w = bytes_within label buffer n (sym same ∙ e) in omega arith
 
 -- as many days are written as there are instants, and a place that is handed back is one of them
 module _ (instants days : List ℤ) (small : length instants < 2 ^ 63) where
@@ -52,22 +47,19 @@ module _ (instants days : List ℤ) (small : length instants < 2 ^ 63) where
       go false false true h k = omega (arith, ltb-true (first_fall instants) (length instants) k)
       go false false false h k = small
 
-  pub count_fits : {outcome : Outcome ℕ} → outcome ≡ index_days_answer instants days → (n : ℕ) → outcome ≡ value n → n < 2 ^ 63
-  unfolding Fit
-  count_fits same n e = subst Fit (sym same ∙ e) index_fits
+  module _ {answer : Result ℕ (RefusalAt ℕ)} (same : outcome_at answer ≡ index_days_answer instants days) where
+    pub count_fits : (n : ℕ) → answer ≡ Ok n → n < 2 ^ 63
+    unfolding Fit
+    count_fits n e = subst Fit (sym same ∙ ap outcome_at e) index_fits
 
-  pub place_fits :
-      {outcome : Outcome ℕ} → outcome ≡ index_days_answer instants days → (number place : ℕ) → outcome ≡ refused_at number place → place < 2 ^ 63
-  unfolding Fit
-  place_fits same number place e = subst Fit (sym same ∙ e) index_fits
+    pub place_fits : (why : Refusal) (n : ℕ) → answer ≡ Err (At why n) → n < 2 ^ 63
+    unfolding Fit
+    place_fits why n e = subst Fit (sym same ∙ ap outcome_at e) index_fits
 
 -- the least n is below the end of the search, or the bound, and both are numbers of an i64
-below_fits : {end : ℤ} {n : ℕ} → SFits w64 end → n < nat_abs (read end) → n < 2 ^ 63
-below_fits {end} {n} fits l = go end fits.sfits (subst (λ (z : ℤ). n < nat_abs z) (to_z-of_z fits) l)
-  where
-    go : (end : ℤ) → mag end < 2 ^ 63 → n < nat_abs end → n < 2 ^ 63
-    go (pos a) small l = omega arith
-    go (negsuc a) small l = omega arith
+below_fits : {end : ℤ} {n : ℕ} → SFits w64 end → n < nat_abs end → n < 2 ^ 63
+below_fits {end = pos a} fits l = omega (arith, fits.sfits)
+below_fits {end = negsuc a} fits l = omega (arith, fits.sfits)
 
 module _ (a b d m c k t : ℤ) where
   D : ℕ → Bool
@@ -87,22 +79,22 @@ module _ (a b d m c k t : ℤ) where
       (λ l below limit e. let same : l ≡ n = cc in omega arith) (λ e. clash (cc)) (λ e. clash (cc))
 
   pub found_fits :
-      {end : ℤ} → SFits w64 end → {outcome : Outcome Found} → outcome ≡ difference_answer a b d m c k t (read end) →
-      (n : ℕ) → outcome ≡ value (at n) → n < 2 ^ 63
-  found_fits {end} fits same n e = below_fits fits (found_below (read end) n (sym same ∙ e))
+      {end : ℤ} → SFits w64 end → {answer : Result (Option ℕ) Refusal} → search_outcome answer ≡ difference_answer a b d m c k t end →
+      (n : ℕ) → answer ≡ Ok (Some n) → n < 2 ^ 63
+  found_fits {end} fits same n e = below_fits fits (found_below end n (sym same ∙ ap search_outcome e))
 
   pub least_fits :
-      {bound : ℤ} → SFits w64 bound → {outcome : Outcome Acceptance} → outcome ≡ bound_answer a b d m c k t (read bound) →
-      (number n : ℕ) → outcome ≡ refused_at number n → n < 2 ^ 63
-  least_fits {bound} fits same number n e = below_fits fits (least_below_lem (read bound) number n (sym same ∙ e))
+      {bound : ℤ} → SFits w64 bound → {answer : Result (Unit {0}) (RefusalAt ℕ)} → claim_outcome answer ≡ bound_answer a b d m c k t bound →
+      (why : Refusal) (n : ℕ) → answer ≡ Err (At why n) → n < 2 ^ 63
+  least_fits {bound} fits same why n e = below_fits fits (least_below_lem bound (refusal_number why) n (sym same ∙ ap claim_outcome e))
 
 -- what a sheet holds, and the least n of one of its records
 pub contents_fit :
-    (sheet : List ℕ) {outcome : Outcome Contents} → outcome ≡ sheets.read_answer sheet → (contents : Contents) → outcome ≡ value contents →
-    (contents.records < 2 ^ 63) × (contents.offset < 2 ^ 63)
-contents_fit sheet same contents e = let o = opened sheet (sym same ∙ e) in (omega arith, omega arith)
+    (sheet : List ℕ) {answer : Result Contents Refusal} → outcome answer ≡ sheets.read_answer sheet →
+    (contents : Contents) → answer ≡ Ok contents → (contents.records < 2 ^ 63) × (contents.offset < 2 ^ 63)
+contents_fit sheet same contents e = let o = opened sheet (sym same ∙ ap outcome e) in (omega arith, omega arith)
 
 pub check_fits :
-    (sheet : List ℕ) (place : ℤ) {outcome : Outcome Acceptance} → outcome ≡ sheets.check_answer sheet place →
-    (number n : ℕ) → outcome ≡ refused_at number n → n < 2 ^ 63
-check_fits sheet place same number n e = let l = check_least sheet place number n (sym same ∙ e) in omega arith
+    (sheet : List ℕ) (place : ℤ) {answer : Result (Unit {0}) (RefusalAt ℕ)} → claim_outcome answer ≡ sheets.check_answer sheet place →
+    (why : Refusal) (n : ℕ) → answer ≡ Err (At why n) → n < 2 ^ 63
+check_fits sheet place same why n e = let l = check_least sheet place (refusal_number why) n (sym same ∙ ap claim_outcome e) in omega arith

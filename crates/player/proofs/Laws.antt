@@ -8,6 +8,7 @@ use lib.IntN.{ℤ, pos, nat_abs, neg_ℤ, ◌+ℤ◌}
 use lib.Dec.{eqb, leb, ltb}
 use lib.ListN.{length}
 use lib.Signed.{non_neg, lt_z}
+use Rattle.std.specs.Prelude.{Option, Some}
 use Rattle.refusal.specs.Outcome.{Outcome, value, refused, refused_at, and_then, map_value, after_call}
 use Rattle.numbers.specs.Range.{outside}
 use Rattle.numbers.proofs.Between.{natural_within}
@@ -41,8 +42,6 @@ use Rattle.sheet.specs.Report.{report_text}
 use Rattle.transport.specs.Wraps.{reached, milliseconds_of}
 use Rattle.transport.specs.Wraps as T
 use Rattle.transport.specs.Answers.{not_followed, follow_answer, clock_after, follow_all_answer}
-use Rattle.transport.specs.declared.Clock.{Clock}
-use Rattle.transport.specs.declared.Clock.TheVariants.{At}
 use Rattle.transport.specs.declared.Position.{Position}
 use Rattle.transport.proofs.Answered.{reached_inside}
 use Rattle.transport.proofs.Laws.{first_and_rest}
@@ -285,7 +284,7 @@ sheet_report_tells sheet buffer = written_tells (value (report_text sheet)) buff
 
 -- ---- the transport clock
 
-pub follow_tells : (clock : Clock) (heard : ℤ) → Tells returned_milliseconds (follow_answer clock heard)
+pub follow_tells : (clock : Option ℤ) (heard : ℤ) → Tells returned_milliseconds (follow_answer clock heard)
 unfolding follow_answer
 follow_tells clock heard =
     by_test returned_milliseconds (not_followed clock heard) _ _ (λ _. told refl) (λ h.
@@ -298,7 +297,7 @@ numbers_follow numbers heard = go (follow_answer (clock_of numbers) heard)
   where
     go :
         (answer : Outcome Position) → clock_of (after_call answer (λ p. clock_numbers p.ticks) numbers)
-        ≡ after_call answer (λ p. At p.ticks) (clock_of numbers)
+        ≡ after_call answer (λ p. Some p.ticks) (clock_of numbers)
     go (value p) = refl
     go (refused number) = refl
     go (refused_at number place) = refl

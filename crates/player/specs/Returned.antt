@@ -1,8 +1,8 @@
 -- What the exported calls return, and what they leave in the places that the caller hands in: document 01, "What the label desk gets":
 -- the value, "or the refusal number negated". A value that may be below zero, or is more than one number, goes to a place instead, and
--- the call then returns 0, or what else is never below zero. What such a place holds after a call is `after_call` of the call's answer; a place or least n that a refusal
--- hands back has a place of its own (`after_refusal`).
-use Rattle.std.specs.Prelude.{ℕ, ◌≡◌, Bool, true, false, cond, ℤ, pos, neg_ℤ, get_or}
+-- the call then returns 0, or what else is never below zero. What such a place holds after a call is `after_call` of the call's answer; a
+-- place or least n that a refusal hands back has a place of its own (`after_refusal`).
+use Rattle.std.specs.Prelude.{ℕ, ◌≡◌, Bool, true, false, cond, Option, None, Some, ℤ, pos, neg_ℤ, get_or}
 use mathlib.Core.List.{List, [], ◌∷◌, foldl}
 use Rattle.std.specs.Int.Signed.{non_neg}
 use Rattle.refusal.specs.Outcome.{Outcome, value, refused, refused_at, map_value, after_call}
@@ -15,8 +15,6 @@ use Rattle.constants.specs.Least.{Found, at, none}
 use Rattle.sheet.specs.declared.Contents.{Contents}
 use Rattle.sheet.specs.declared.Claim.{Claim}
 use Rattle.transport.specs.Answers.{follow_answer}
-use Rattle.transport.specs.declared.Clock.{Clock}
-use Rattle.transport.specs.declared.Clock.TheVariants.{Nothing, At}
 use Rattle.transport.specs.declared.Position.{Position}
 
 -- the value, or the refusal's number negated
@@ -71,10 +69,10 @@ record_numbers r =
 
 -- a transport clock is two numbers, `heard` and `position`: nothing has been heard where `heard` is 0, and `position` is then not
 -- looked at
-abbrev pub clock_from : (heard position : ℤ) → Clock
-clock_from heard position = cond (eq_z heard (pos 0)) Nothing (At position)
+abbrev pub clock_from : (heard position : ℤ) → Option ℤ
+clock_from heard position = cond (eq_z heard (pos 0)) None (Some position)
 
-abbrev pub clock_of : (numbers : List ℤ) → Clock
+abbrev pub clock_of : (numbers : List ℤ) → Option ℤ
 clock_of numbers = clock_from (get_or numbers 0 (pos 0)) (get_or numbers 1 (pos 0))
 
 -- what they are after a value: 1 and the position of an accepted one, and else what they were

@@ -1,34 +1,17 @@
-// A transport clock as the two numbers of its place, `heard` and `position`, and what its calls return and leave there.
+// A transport clock as the two numbers of its place, `heard` and `position`, and what a batch of its values returns and leaves there.
 
 ghost use Rattle.std.specs.Prelude.{◌<◌, ◌^◌, ◌≡◌, pos};
-ghost use Rattle.refusal.specs.Outcome.{after_call};
-ghost use Rattle.transport.specs.Answers.{position_outcome};
-ghost use Rattle.player.specs.Returned.{returned_milliseconds, clock_from, clock_numbers};
+ghost use Rattle.player.specs.Returned.{clock_of};
 ghost use Rattle.player.specs.ClockPlaces.{after_batch};
 
-use super::give;
-use transport::{Batch, Clock, PositionAnswer};
+use transport::{Batch, Clock};
 
-pub fn from_numbers(heard: i64, position: i64) -> Clock
-    ensures { result ≡ clock_from heard position }
+pub fn from_numbers(numbers: &[i64; 2]) -> Clock
+    ensures { result ≡ clock_of numbers.now }
 {
-    if heard == 0 {
-        return Clock::Nothing;
-    }
-    Clock::At(position)
-}
-
-pub fn followed(answer: PositionAnswer, place: &mut [i64; 2]) -> i64
-    ensures answer { result ≡ returned_milliseconds (position_outcome answer) }
-    ensures place { place.new ≡ after_call (position_outcome answer) (λ p. clock_numbers p.ticks) place.old }
-{
-    match answer {
-        PositionAnswer::Value(p) => {
-            *place = [1, p.ticks];
-            p.milliseconds
-        }
-        PositionAnswer::Refused(why) => give::negated(why),
-    }
+    let [heard, position] = *numbers;
+    // Slower with `if`, whose two branches the tests behind it are compiled into.
+    (heard != 0).then_some(position)
 }
 
 // `count` is how many values the batch had.
@@ -37,16 +20,10 @@ pub fn followed_all(batch: Batch, count: usize, place: &mut [i64; 2]) -> i64
     ensures answer { result ≡ pos batch.skipped }
     ensures place { place.new ≡ after_batch count batch place.old }
 {
-    let skipped = batch.skipped;
-    if skipped == count {
-        return skipped as i64;
+    if let Some(position) = batch.clock
+        && batch.skipped != count
+    {
+        *place = [1, position];
     }
-    let clock = batch.clock;
-    match clock {
-        Clock::Nothing => skipped as i64,
-        Clock::At(position) => {
-            *place = [1, position];
-            skipped as i64
-        }
-    }
+    batch.skipped as i64
 }

@@ -55,14 +55,18 @@ ghost use Rattle.player.specs.Returned.{returned, returned_count, returned_flag,
 
 mod clocks;
 mod give;
-mod sheets;
+
+use calendar::Date;
+use constants::Constants;
+use instant::Fields;
+use week::WeekDate;
 
 #[unsafe(no_mangle)]
 pub extern "C" fn ovenquill_days_from_civil(year: i64, month: i64, day: i64, days: &mut i64) -> i64
     ensures answer { result ≡ returned_done (days_answer year month day) }
     ensures days { days.new ≡ after_call (days_answer year month day) (λ n. n) days.old }
 {
-    give::number(calendar::days_from_civil(year, month, day), days)
+    give::placed(calendar::days_from_civil(Date { year, month, day }), days)
 }
 
 #[unsafe(no_mangle)]
@@ -70,7 +74,7 @@ pub extern "C" fn ovenquill_civil_from_days(days: i64, date: &mut [i64; 3]) -> i
     ensures answer { result ≡ returned_done (civil_answer days) }
     ensures date { date.new ≡ after_call (civil_answer days) date_numbers date.old }
 {
-    give::date(calendar::month_table::civil_from_days(days), date)
+    give::placed(calendar::month_table::civil_from_days(days), date)
 }
 
 #[unsafe(no_mangle)]
@@ -78,7 +82,7 @@ pub extern "C" fn ovenquill_civil_from_days_plain(days: i64, date: &mut [i64; 3]
     ensures answer { result ≡ returned_done (civil_answer days) }
     ensures date { date.new ≡ after_call (civil_answer days) date_numbers date.old }
 {
-    give::date(calendar::plain::civil_from_days(days), date)
+    give::placed(calendar::plain::civil_from_days(days), date)
 }
 
 #[unsafe(no_mangle)]
@@ -86,35 +90,35 @@ pub extern "C" fn ovenquill_civil_from_days_audit(days: i64, date: &mut [i64; 3]
     ensures answer { result ≡ returned_done (civil_answer days) }
     ensures date { date.new ≡ after_call (civil_answer days) date_numbers date.old }
 {
-    give::date(calendar::audit::civil_from_days(days), date)
+    give::placed(calendar::audit::civil_from_days(days), date)
 }
 
 #[unsafe(no_mangle)]
 pub extern "C" fn ovenquill_weekday(days: i64) -> i64
     ensures { result ≡ returned (weekday_answer days) }
 {
-    give::returned_number(calendar::weekday_from_days(days))
+    give::returned(calendar::weekday_from_days(days))
 }
 
 #[unsafe(no_mangle)]
 pub extern "C" fn ovenquill_is_leap(year: i64) -> i64
     ensures { result ≡ returned_flag (leap_answer year) }
 {
-    give::returned_flag(calendar::is_leap(year))
+    give::returned(calendar::is_leap(year))
 }
 
 #[unsafe(no_mangle)]
 pub extern "C" fn ovenquill_last_day_of_month(year: i64, month: i64) -> i64
     ensures { result ≡ returned (last_day_answer year month) }
 {
-    give::returned_number(calendar::last_day_of_month(year, month))
+    give::returned(calendar::last_day_of_month(year, month))
 }
 
 #[unsafe(no_mangle)]
 pub extern "C" fn ovenquill_day_of_year(year: i64, month: i64, day: i64) -> i64
     ensures { result ≡ returned (day_of_year_answer year month day) }
 {
-    give::returned_number(calendar::day_of_year(year, month, day))
+    give::returned(calendar::day_of_year(Date { year, month, day }))
 }
 
 #[unsafe(no_mangle)]
@@ -128,7 +132,7 @@ pub extern "C" fn ovenquill_add_days(
     ensures answer { result ≡ returned_done (add_days_answer year month day days) }
     ensures date { date.new ≡ after_call (add_days_answer year month day days) date_numbers date.old }
 {
-    give::date(calendar::add_days(year, month, day, days), date)
+    give::placed(calendar::add_days(Date { year, month, day }, days), date)
 }
 
 #[unsafe(no_mangle)]
@@ -136,7 +140,7 @@ pub extern "C" fn ovenquill_week_from_days(days: i64, week: &mut [i64; 3]) -> i6
     ensures answer { result ≡ returned_done (week_answer days) }
     ensures week { week.new ≡ after_call (week_answer days) week_numbers week.old }
 {
-    give::week(week::week_from_days(days), week)
+    give::placed(week::week_from_days(days), week)
 }
 
 #[unsafe(no_mangle)]
@@ -149,7 +153,12 @@ pub extern "C" fn ovenquill_days_from_week(
     ensures answer { result ≡ returned_done (week_days_answer year week weekday) }
     ensures days { days.new ≡ after_call (week_days_answer year week weekday) (λ n. n) days.old }
 {
-    give::number(week::days_from_week(year, week, weekday), days)
+    let date = WeekDate {
+        year,
+        week,
+        weekday,
+    };
+    give::placed(week::days_from_week(date), days)
 }
 
 #[unsafe(no_mangle)]
@@ -157,7 +166,7 @@ pub extern "C" fn ovenquill_day_of_instant(instant: i64, days: &mut i64) -> i64
     ensures answer { result ≡ returned_done (day_answer instant) }
     ensures days { days.new ≡ after_call (day_answer instant) (λ n. n) days.old }
 {
-    give::number(instant::day_of_instant(instant), days)
+    give::placed(instant::day_of_instant(instant), days)
 }
 
 #[unsafe(no_mangle)]
@@ -165,7 +174,7 @@ pub extern "C" fn ovenquill_split_instant(instant: i64, fields: &mut [i64; 7]) -
     ensures answer { result ≡ returned_done (split_answer instant) }
     ensures fields { fields.new ≡ after_call (split_answer instant) fields_numbers fields.old }
 {
-    give::fields(instant::split_instant(instant), fields)
+    give::placed(instant::split_instant(instant), fields)
 }
 
 #[unsafe(no_mangle)]
@@ -182,10 +191,16 @@ pub extern "C" fn ovenquill_join_instant(
     ensures answer { result ≡ returned_done (join_answer year month day hour minute second millisecond) }
     ensures instant { instant.new ≡ after_call (join_answer year month day hour minute second millisecond) (λ n. n) instant.old }
 {
-    give::number(
-        instant::join_instant(year, month, day, hour, minute, second, millisecond),
-        instant,
-    )
+    let fields = Fields {
+        year,
+        month,
+        day,
+        hour,
+        minute,
+        second,
+        millisecond,
+    };
+    give::placed(instant::join_instant(fields), instant)
 }
 
 #[unsafe(no_mangle)]
@@ -194,7 +209,7 @@ pub extern "C" fn ovenquill_index_days(instants: &[i64], days: &mut [i32], place
     ensures days { days.new ≡ index_days instants.now days.old }
     ensures place { place.new ≡ after_refusal (index_days_answer instants.now days.old) place.old }
 {
-    give::index(instant::index_days(instants, days), place)
+    give::returned_at(instant::index_days(instants, days), place)
 }
 
 #[unsafe(no_mangle)]
@@ -202,7 +217,7 @@ pub extern "C" fn ovenquill_write_instant(instant: i64, out: &mut [u8]) -> i64
     ensures answer { result ≡ returned_count (bytes_written (instant_label instant) out.old) }
     ensures buffer { out.new ≡ written_buffer (instant_label instant) out.old }
 {
-    give::returned_bytes(labels::rfc3339::write_instant(instant, out))
+    give::returned(labels::rfc3339::write_instant(instant, out))
 }
 
 #[unsafe(no_mangle)]
@@ -210,7 +225,7 @@ pub extern "C" fn ovenquill_read_instant(label: &[u8], instant: &mut i64) -> i64
     ensures answer { result ≡ returned_done (read_answer label.now) }
     ensures instant { instant.new ≡ after_call (read_answer label.now) (λ n. n) instant.old }
 {
-    give::number(labels::rfc3339::read_instant(label), instant)
+    give::placed(labels::rfc3339::read_instant(label), instant)
 }
 
 #[unsafe(no_mangle)]
@@ -218,7 +233,7 @@ pub extern "C" fn ovenquill_write_week(days: i64, out: &mut [u8]) -> i64
     ensures answer { result ≡ returned_count (bytes_written (week_label days) out.old) }
     ensures buffer { out.new ≡ written_buffer (week_label days) out.old }
 {
-    give::returned_bytes(labels::iso_week::write_week(days, out))
+    give::returned(labels::iso_week::write_week(days, out))
 }
 
 #[unsafe(no_mangle)]
@@ -226,7 +241,7 @@ pub extern "C" fn ovenquill_read_week(label: &[u8], days: &mut i64) -> i64
     ensures answer { result ≡ returned_done (read_week_answer label.now) }
     ensures days { days.new ≡ after_call (read_week_answer label.now) (λ n. n) days.old }
 {
-    give::number(labels::iso_week::read_week(label), days)
+    give::placed(labels::iso_week::read_week(label), days)
 }
 
 #[unsafe(no_mangle)]
@@ -234,14 +249,14 @@ pub extern "C" fn ovenquill_write_position(position: i64, out: &mut [u8]) -> i64
     ensures answer { result ≡ returned_count (bytes_written (position_label position) out.old) }
     ensures buffer { out.new ≡ written_buffer (position_label position) out.old }
 {
-    give::returned_bytes(labels::webvtt::write_position(position, out))
+    give::returned(labels::webvtt::write_position(position, out))
 }
 
 #[unsafe(no_mangle)]
 pub extern "C" fn ovenquill_read_position(text: &[u8]) -> i64
     ensures { result ≡ returned (position_answer text.now) }
 {
-    give::returned_number(labels::webvtt::read_position(text))
+    give::returned(labels::webvtt::read_position(text))
 }
 
 #[unsafe(no_mangle)]
@@ -249,7 +264,7 @@ pub extern "C" fn ovenquill_read_cue(line: &[u8], cue: &mut [i64; 2]) -> i64
     ensures answer { result ≡ returned_done (cue_line_answer line.now) }
     ensures cue { cue.new ≡ after_call (cue_line_answer line.now) cue_numbers cue.old }
 {
-    give::cue(labels::webvtt::read_cue(line), cue)
+    give::placed(labels::webvtt::read_cue(line), cue)
 }
 
 #[unsafe(no_mangle)]
@@ -265,7 +280,16 @@ pub extern "C" fn ovenquill_first_difference(
 ) -> i64
     ensures { result ≡ returned_found end (difference_answer a b d m c k t end) }
 {
-    give::returned_found(constants::first_difference(a, b, d, m, c, k, t, end), end)
+    let constants = Constants {
+        a,
+        b,
+        d,
+        m,
+        c,
+        k,
+        t,
+    };
+    give::returned_found(constants::first_difference(constants, end), end)
 }
 
 #[unsafe(no_mangle)]
@@ -283,15 +307,25 @@ pub extern "C" fn ovenquill_check_bound(
     ensures answer { result ≡ returned_done (bound_answer a b d m c k t bound) }
     ensures least { least.new ≡ after_refusal (bound_answer a b d m c k t bound) least.old }
 {
-    give::claim(constants::check_bound(a, b, d, m, c, k, t, bound), least)
+    let constants = Constants {
+        a,
+        b,
+        d,
+        m,
+        c,
+        k,
+        t,
+    };
+    give::returned_at(constants::check_bound(constants, bound), least)
 }
 
+#[tactic(auto, using(crate::proofs::Fitting::contents_fit))]
 #[unsafe(no_mangle)]
 pub extern "C" fn ovenquill_sheet_read(sheet: &[u8], note_length: &mut i64) -> i64
     ensures answer { result ≡ returned_records (answers.read_answer sheet.now) }
     ensures place { note_length.new ≡ after_call (answers.read_answer sheet.now) length_of_note note_length.old }
 {
-    sheets::contents(sheet::read(sheet), note_length)
+    give::placed(sheet::read(sheet), note_length)
 }
 
 #[unsafe(no_mangle)]
@@ -299,15 +333,16 @@ pub extern "C" fn ovenquill_sheet_record(sheet: &[u8], place: i64, record: &mut 
     ensures answer { result ≡ returned_done (answers.record_answer sheet.now place) }
     ensures numbers { «record».new ≡ after_call (answers.record_answer sheet.now place) record_numbers «record».old }
 {
-    sheets::numbers(sheet::record(sheet, place), record)
+    give::placed(sheet::record(sheet, place), record)
 }
 
+#[tactic(auto, using(crate::proofs::Fitting::check_fits))]
 #[unsafe(no_mangle)]
 pub extern "C" fn ovenquill_sheet_check(sheet: &[u8], place: i64, least: &mut i64) -> i64
     ensures answer { result ≡ returned_done (answers.check_answer sheet.now place) }
     ensures least { least.new ≡ after_refusal (answers.check_answer sheet.now place) least.old }
 {
-    give::claim(sheet::check_record(sheet, place), least)
+    give::returned_at(sheet::check_record(sheet, place), least)
 }
 
 #[unsafe(no_mangle)]
@@ -315,7 +350,7 @@ pub extern "C" fn ovenquill_sheet_write(note: &[u8], numbers: &[u32], out: &mut 
     ensures answer { result ≡ returned_count (bytes_written (answers.sheet_text note.now numbers.now) out.old) }
     ensures buffer { out.new ≡ written_buffer (answers.sheet_text note.now numbers.now) out.old }
 {
-    give::returned_bytes(sheet::write(note, numbers, out))
+    give::returned(sheet::write(note, numbers, out))
 }
 
 #[unsafe(no_mangle)]
@@ -323,24 +358,25 @@ pub extern "C" fn ovenquill_sheet_report(sheet: &[u8], out: &mut [u8]) -> i64
     ensures answer { result ≡ returned_count (bytes_written (value (report_text sheet.now)) out.old) }
     ensures buffer { out.new ≡ written_buffer (value (report_text sheet.now)) out.old }
 {
-    give::returned_bytes(sheet::report(sheet, out))
+    give::returned(sheet::report(sheet, out))
 }
 
+#[tactic(auto, unfolding(crate::specs::Returned::clock_after_value))]
 #[unsafe(no_mangle)]
 pub extern "C" fn ovenquill_follow(clock: &mut [i64; 2], value: i64) -> i64
     ensures answer { result ≡ returned_milliseconds (follow_answer (clock_of clock.old) value) }
     ensures clock { clock.new ≡ clock_after_value clock.old value }
 {
-    let followed = transport::follow(clocks::from_numbers(clock[0], clock[1]), value);
-    let answer = followed.answer;
-    clocks::followed(answer, clock)
+    let followed = transport::follow(clocks::from_numbers(clock), value);
+    give::placed(followed.answer, clock)
 }
 
+#[tactic(auto, using(transport::proofs::Laws::skipped_at_most, crate::proofs::ClockPlace::batch_place))]
 #[unsafe(no_mangle)]
 pub extern "C" fn ovenquill_follow_all(clock: &mut [i64; 2], values: &[i64]) -> i64
     ensures answer { result ≡ pos (follow_all_answer (clock_of clock.old) values.now).skipped }
     ensures clock { clock.new ≡ clock_after_values clock.old values.now }
 {
-    let batch = transport::follow_all(clocks::from_numbers(clock[0], clock[1]), values);
+    let batch = transport::follow_all(clocks::from_numbers(clock), values);
     clocks::followed_all(batch, values.len(), clock)
 }
