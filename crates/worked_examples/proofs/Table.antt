@@ -37,7 +37,7 @@ use Rattle.constants.specs.Limits.{outside_limits}
 use Rattle.constants.specs.Answers.{difference, difference_answer}
 use Rattle.constants.proofs.Laws.{found_early}
 use Rattle.transport.specs.Answers.{follow_answer}
-use Rattle.transport.specs.declared.Clock.TheVariants.{At}
+use Rattle.std.specs.declared.option.Option.TheVariants.{Some}
 
 leap_day_0_row : civil_answer (negsuc 719468) ≡ value (date_of (pos 0) (pos 2) (pos 29))
 unfolding day_number start leaps leap_day leapℕ before month_days
@@ -197,11 +197,11 @@ sunday_row = refl
 
 -- ---- document 02, request Five: past the wrap; and half a wrap, which goes backwards
 
-pub wrap_row : follow_answer (At (pos 8589934500)) (pos 2910) ≡ value (record { ticks = pos 8589937502; milliseconds = pos 95443750 })
+pub wrap_row : follow_answer (Some (pos 8589934500)) (pos 2910) ≡ value (record { ticks = pos 8589937502; milliseconds = pos 95443750 })
 unfolding follow_answer
 wrap_row = refl
 
-pub half_a_wrap_row : follow_answer (At (pos 8589934592)) (pos 4294967296) ≡ value (record { ticks = pos 4294967296; milliseconds = pos 47721858 })
+pub half_a_wrap_row : follow_answer (Some (pos 8589934592)) (pos 4294967296) ≡ value (record { ticks = pos 4294967296; milliseconds = pos 47721858 })
 unfolding follow_answer
 half_a_wrap_row = refl
 

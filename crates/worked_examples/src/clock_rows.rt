@@ -1,73 +1,88 @@
-// The transport clock: document 02, request Five. A wrap either way, a step of half a wrap, the ends of the range, and batches.
+// The transport clock: a wrap either way, a step of half a wrap, the ends of the range, and batches.
 
-use super::show::{refused, spaced_numbers};
-use std::io;
+use super::show::Answer;
 use std::io::Write;
-use transport::{Clock, PositionAnswer};
+use std::{fmt, io};
+use transport::{Clock, Position};
 
 pub fn run(out: &mut impl Write) -> io::Result<()> {
-    value(out, Clock::Nothing, 8589934500)?;
-    value(out, Clock::At(8589934500), 2910)?;
-    value(out, Clock::At(8589937502), 8589934590)?;
-    value(out, Clock::At(85899345920), 1)?;
-    value(out, Clock::At(0), 4294967295)?;
-    value(out, Clock::At(0), 4294967296)?;
-    value(out, Clock::At(8589934592), 4294967296)?;
-    value(out, Clock::At(8589934592), 4294967295)?;
-    value(out, Clock::At(9007199254740991), 0)?;
-    value(out, Clock::At(9007199254740992), 0)?;
-    value(out, Clock::At(9007199254740992), 1)?;
-    value(out, Clock::At(9007199254740993), 0)?;
-    value(out, Clock::At(-1), 0)?;
-    value(out, Clock::At(0), 8589934591)?;
-    value(out, Clock::Nothing, 8589934591)?;
-    value(out, Clock::Nothing, 8589934592)?;
-    value(out, Clock::Nothing, -1)?;
-    values(
+    for (clock, value) in [
+        (None, 8589934500i64),
+        (Some(8589934500i64), 2910),
+        (Some(8589937502), 8589934590),
+        (Some(85899345920), 1),
+        (Some(0), 4294967295),
+        (Some(0), 4294967296),
+        (Some(8589934592), 4294967296),
+        (Some(8589934592), 4294967295),
+        (Some(9007199254740991), 0),
+        (Some(9007199254740992), 0),
+        (Some(9007199254740992), 1),
+        (Some(9007199254740993), 0),
+        (Some(-1), 0),
+        (Some(0), 8589934591),
+        (None, 8589934591),
+        (None, 8589934592),
+        (None, -1),
+    ] {
+        value_row(out, clock, value)?;
+    }
+    values_row(
         out,
-        Clock::Nothing,
+        None,
         &[-1, 8589934500, 8589934592, 2910, 8589934590, 5913],
     )?;
-    values(out, Clock::Nothing, &[-1, 8589934592])?;
-    values(out, Clock::At(-1), &[0, 90, 180])?;
-    values(out, Clock::At(17179869184), &[8589934591, 90, 4294967386])?;
-    Ok(())
+    values_row(out, None, &[-1, 8589934592])?;
+    values_row(out, Some(-1), &[0, 90, 180])?;
+    values_row(out, Some(17179869184), &[8589934591, 90, 4294967386])
 }
 
-fn clock_words(out: &mut impl Write, clock: Clock) -> io::Result<()> {
-    match clock {
-        Clock::Nothing => write!(out, "with nothing heard"),
-        Clock::At(position) => write!(out, "at {position}"),
+// A clock in words.
+#[derive(Clone, Copy)]
+struct InWords(Clock);
+
+impl fmt::Display for InWords {
+    fn fmt<W: fmt::Write>(&self, f: &mut fmt::Formatter<W>) -> fmt::Result {
+        match self.0 {
+            None => write!(f, "with nothing heard"),
+            Some(position) => write!(f, "at {position}"),
+        }
     }
 }
 
-// One value: its position in ticks and in milliseconds, and the clock after it.
-fn value(out: &mut impl Write, clock: Clock, heard: i64) -> io::Result<()> {
-    write!(out, "clock ")?;
-    clock_words(out, clock)?;
-    write!(out, ", value {heard}: ")?;
-    let followed = transport::follow(clock, heard);
-    match followed.answer {
-        PositionAnswer::Value(position) => write!(
-            out,
-            "{} ticks, {} ms",
-            position.ticks, position.milliseconds
-        )?,
-        PositionAnswer::Refused(r) => refused(out, r)?,
+// A position in ticks and in milliseconds.
+#[derive(Clone, Copy)]
+struct Units(Position);
+
+impl fmt::Display for Units {
+    fn fmt<W: fmt::Write>(&self, f: &mut fmt::Formatter<W>) -> fmt::Result {
+        write!(f, "{} ticks, {} ms", self.0.ticks, self.0.milliseconds)
     }
-    write!(out, ", then ")?;
-    clock_words(out, followed.clock)?;
-    writeln!(out)
+}
+
+// One value: its position, and the clock after it.
+fn value_row(out: &mut impl Write, clock: Clock, value: i64) -> io::Result<()> {
+    let followed = transport::follow(clock, value);
+    let position = Answer(followed.answer.map(|p| Units(p)));
+    let after = InWords(followed.clock);
+    writeln!(
+        out,
+        "clock {}, value {value}: {position}, then {after}",
+        InWords(clock)
+    )
 }
 
 // A batch: how many values were passed over, and the clock after them.
-fn values(out: &mut impl Write, clock: Clock, list: &[i64]) -> io::Result<()> {
-    write!(out, "clock ")?;
-    clock_words(out, clock)?;
-    write!(out, ", values")?;
-    spaced_numbers(out, list)?;
-    let batch = transport::follow_all(clock, list);
-    write!(out, ": {} passed over, then ", batch.skipped)?;
-    clock_words(out, batch.clock)?;
-    writeln!(out)
+fn values_row(out: &mut impl Write, clock: Clock, values: &[i64]) -> io::Result<()> {
+    write!(out, "clock {}, values", InWords(clock))?;
+    for value in values {
+        write!(out, " {value}")?;
+    }
+    let batch = transport::follow_all(clock, values);
+    writeln!(
+        out,
+        ": {} passed over, then {}",
+        batch.skipped,
+        InWords(batch.clock)
+    )
 }

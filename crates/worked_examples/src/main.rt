@@ -1,5 +1,5 @@
-// Document 01, "Numbers to try", and rows for what document 02 adds: each row is run, and what is printed is held to the file stdout.
-// The starred rows and some others are theorems besides, in proofs/Table.antt.
+// Numbers to try of each call, a row for each; what is printed is held to the file stdout. The starred rows and some others are theorems
+// besides, in proofs/Table.antt.
 
 #![tactic(auto)]
 
@@ -11,7 +11,6 @@ mod label_rows;
 mod show;
 mod timing_rows;
 mod week_rows;
-mod writing;
 
 use std::io;
 

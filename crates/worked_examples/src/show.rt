@@ -1,81 +1,67 @@
-// Answers in words and numbers.
+// What rows have in common: answers and lists of numbers in words, and the rows of labels.
 
-use calendar::{DateAnswer, FlagAnswer};
-use refusal::{NumberAnswer, Refusal, WriteAnswer};
-use std::io;
+use calendar::Date;
+use refusal::Refusal;
 use std::io::Write;
+use std::{fmt, io};
 
-// Each number, with a blank before it.
-pub fn spaced_numbers(out: &mut impl Write, list: &[i64]) -> io::Result<()> {
-    for n in list {
-        write!(out, " {n}")?;
-    }
-    Ok(())
-}
+// An answer: its value, or its refusal.
+#[derive(Drop)]
+pub struct Answer<T, E>(pub Result<T, E>);
 
-pub fn refused(out: &mut impl Write, refusal: Refusal) -> io::Result<()> {
-    write!(out, "refused {}", refusal::number(refusal))
-}
-
-pub fn number_answer(out: &mut impl Write, answer: NumberAnswer) -> io::Result<()> {
-    match answer {
-        NumberAnswer::Value(n) => write!(out, "{n}"),
-        NumberAnswer::Refused(r) => refused(out, r),
+impl<T: fmt::Display, E: fmt::Display> fmt::Display for Answer<T, E> {
+    fn fmt<W: fmt::Write>(&self, f: &mut fmt::Formatter<W>) -> fmt::Result {
+        match &self.0 {
+            Ok(value) => write!(f, "{value}"),
+            Err(refusal) => write!(f, "refused {refusal}"),
+        }
     }
 }
 
-pub fn flag_answer(out: &mut impl Write, answer: FlagAnswer) -> io::Result<()> {
-    match answer {
-        FlagAnswer::Value(flag) => yes_or_no(out, flag),
-        FlagAnswer::Refused(r) => refused(out, r),
+// Numbers, with a blank between them.
+#[derive(Clone, Copy)]
+pub struct Numbers<const N: usize>(pub [i64; N]);
+
+impl<const N: usize> fmt::Display for Numbers<N> {
+    fn fmt<W: fmt::Write>(&self, f: &mut fmt::Formatter<W>) -> fmt::Result {
+        let mut between = "";
+        for n in &self.0 {
+            write!(f, "{between}{n}")?;
+            between = " ";
+        }
+        Ok(())
     }
 }
 
-fn yes_or_no(out: &mut impl Write, flag: bool) -> io::Result<()> {
-    if flag {
-        write!(out, "yes")
-    } else {
-        write!(out, "no")
-    }
-}
-
-// Three numbers, with a blank between them.
-pub fn three_numbers(out: &mut impl Write, a: i64, b: i64, c: i64) -> io::Result<()> {
-    write!(out, "{a} {b} {c}")
-}
-
-pub fn date_answer(out: &mut impl Write, answer: DateAnswer) -> io::Result<()> {
-    match answer {
-        DateAnswer::Value(date) => three_numbers(out, date.year, date.month, date.day),
-        DateAnswer::Refused(r) => refused(out, r),
-    }
-}
-
-// What a row is about: a kind of number, the number and words.
-pub fn about(out: &mut impl Write, kind: &str, n: i64, words: &str) -> io::Result<()> {
-    write!(out, "{kind}{n}{words}")
+// The year, the month and the day of a date.
+pub fn date_numbers(date: Date) -> Numbers<3> {
+    Numbers([date.year, date.month, date.day])
 }
 
 // The row of a label that was read.
 pub fn read_row(
     out: &mut impl Write,
-    label: &[u8],
+    label: &str,
     words: &str,
-    answer: NumberAnswer,
+    answer: Result<i64, Refusal>,
 ) -> io::Result<()> {
-    write!(out, "label ")?;
-    out.write_all(label)?;
-    write!(out, "{words}")?;
-    number_answer(out, answer)?;
-    writeln!(out)
+    writeln!(out, "label {label}{words}{}", Answer(answer))
 }
 
-// What a writer answered, and what its buffer holds then.
-pub fn written_answer(out: &mut impl Write, answer: WriteAnswer, buffer: &[u8]) -> io::Result<()> {
-    match answer {
-        WriteAnswer::Written(n) => write!(out, "{n}")?,
-        WriteAnswer::Refused(r) => refused(out, r)?,
-    }
-    write!(out, " ")?;
-    out.write_all(buffer)
+// The row of a label that is written: what it is of, the writer's answer and the buffer, in which the bytes that the writer leaves alone
+// stay as they were.
+pub fn written_row<F: Fn(i64, &mut [u8]) -> Result<usize, Refusal>>(
+    out: &mut impl Write,
+    write: F,
+    kind: &str,
+    n: i64,
+    words: &str,
+    buffer: &mut [u8],
+) -> io::Result<()>
+    requires { F.IsAlwaysCallable write }
+{
+    let answer = Answer(write(n, buffer));
+    write!(out, "{kind} {n}{words}{answer} ")?;
+    out.write_all(buffer)?;
+    writeln!(out)
 }

@@ -1,134 +1,98 @@
-// Document 02, request Seven: week dates from counts and back, and their labels; both ends of the range that request Eight gives the
-// calendar, and of the week years that have labels; and what is refused.
+// Week dates from counts and back, and their labels; both ends of the calendar's range and of the week years that have labels; and what
+// is refused.
 
-use super::show::{about, number_answer, read_row, refused, three_numbers};
-use super::writing;
-use super::writing::Writer;
-use labels::iso_week::LENGTH;
+use super::show::{Answer, Numbers, read_row, written_row};
+use labels::iso_week;
 use std::io;
 use std::io::Write;
-use week::WeekAnswer;
+use week::WeekDate;
 
 pub fn run(out: &mut impl Write) -> io::Result<()> {
     dates(out)?;
     days(out)?;
-    labels(out)?;
-    Ok(())
+    labels(out)
 }
 
 fn dates(out: &mut impl Write) -> io::Result<()> {
-    date(out, 19487)?;
-    date(out, 18627)?;
-    date(out, 18628)?;
-    date(out, -719528)?;
-    date(out, -719527)?;
-    date(out, -719526)?;
-    date(out, 2932896)?;
-    date(out, 2932897)?;
-    date(out, 2932898)?;
-    date(out, 2932899)?;
-    date(out, -12407288)?;
-    date(out, -12407289)?;
-    date(out, 10968231)?;
-    date(out, 10968232)?;
+    for days in [
+        19487i64, 18627, 18628, -719528, -719527, -719526, 2932896, 2932897, 2932898, 2932899,
+        -12407288, -12407289, 10968231, 10968232,
+    ] {
+        let date = Answer(week::week_from_days(days).map(numbers));
+        writeln!(out, "day {days}: week date {date}")?;
+    }
     Ok(())
 }
 
-fn date(out: &mut impl Write, days: i64) -> io::Result<()> {
-    about(out, "day ", days, ": week date ")?;
-    match week::week_from_days(days) {
-        WeekAnswer::Value(w) => three_numbers(out, w.year, w.week, w.weekday)?,
-        WeekAnswer::Refused(r) => refused(out, r)?,
-    }
-    writeln!(out)
+fn numbers(date: WeekDate) -> Numbers<3> {
+    Numbers([date.year, date.week, date.weekday])
 }
 
 fn days(out: &mut impl Write) -> io::Result<()> {
-    day(out, -1, 52, 6)?;
-    day(out, -1, 52, 5)?;
-    day(out, -1, 53, 1)?;
-    day(out, 9999, 52, 5)?;
-    day(out, 9999, 52, 6)?;
-    day(out, 9999, 52, 7)?;
-    day(out, 9999, 53, 1)?;
-    day(out, 10000, 1, 1)?;
-    day(out, -32001, 52, 6)?;
-    day(out, -32001, 52, 5)?;
-    day(out, -32001, 53, 1)?;
-    day(out, -32002, 1, 1)?;
-    day(out, 31999, 52, 5)?;
-    day(out, 31999, 52, 6)?;
-    day(out, 32000, 1, 1)?;
-    day(out, 2021, 53, 1)?;
-    day(out, 2020, 53, 4)?;
-    day(out, 2020, 0, 1)?;
-    day(out, 2020, 1, 0)?;
-    day(out, 2020, 1, 8)?;
+    for (year, week, weekday) in [
+        (-1i64, 52i64, 6i64),
+        (-1, 52, 5),
+        (-1, 53, 1),
+        (9999, 52, 5),
+        (9999, 52, 6),
+        (9999, 52, 7),
+        (9999, 53, 1),
+        (10000, 1, 1),
+        (-32001, 52, 6),
+        (-32001, 52, 5),
+        (-32001, 53, 1),
+        (-32002, 1, 1),
+        (31999, 52, 5),
+        (31999, 52, 6),
+        (32000, 1, 1),
+        (2021, 53, 1),
+        (2020, 53, 4),
+        (2020, 0, 1),
+        (2020, 1, 0),
+        (2020, 1, 8),
+    ] {
+        let date = WeekDate {
+            year,
+            week,
+            weekday,
+        };
+        let count = Answer(week::days_from_week(date));
+        writeln!(out, "week date {}: count {count}", numbers(date))?;
+    }
     Ok(())
-}
-
-fn day(out: &mut impl Write, year: i64, week: i64, weekday: i64) -> io::Result<()> {
-    write!(out, "week date ")?;
-    three_numbers(out, year, week, weekday)?;
-    write!(out, ": count ")?;
-    number_answer(out, week::days_from_week(year, week, weekday))?;
-    writeln!(out)
 }
 
 fn labels(out: &mut impl Write) -> io::Result<()> {
-    written(out, 19487)?;
-    written(out, 18627)?;
-    written(out, 18628)?;
-    written(out, -719527)?;
-    written(out, -719526)?;
-    written(out, 2932897)?;
-    written(out, 2932898)?;
-    written(out, 2932899)?;
-    written(out, -12407289)?;
-    written(out, 10968232)?;
-    short(out, 19487)?;
-    short(out, -719527)?;
-    short(out, 10968232)?;
-    read(out, b"2023-W19-3")?;
-    read(out, b"2020-W53-4")?;
-    read(out, b"2020-W53-5")?;
-    read(out, b"2023-w19-3")?;
-    read(out, b"2023-W00-1")?;
-    read(out, b"2023-W01-0")?;
-    read(out, b"2023-W01-8")?;
-    read(out, b"2023-W01-9")?;
-    read(out, b"-001-W52-6")?;
-    read(out, b"9999-W52-6")?;
-    read(out, b"9999-W52-7")?;
-    read(out, b"9999-W53-1")?;
-    read(out, b"0000-W01-1")?;
-    read(out, b"2023-W1-3")?;
-    read(out, b"10000-W01-1")?;
+    for days in [
+        19487i64, 18627, 18628, -719527, -719526, 2932897, 2932898, 2932899, -12407289, 10968232,
+    ] {
+        written(out, days, ": label ", &mut [b'?'; iso_week::LENGTH])?;
+    }
+    for days in [19487i64, -719527, 10968232] {
+        written(out, days, " in 9 bytes: label ", &mut [b'?'; 9])?;
+    }
+    for label in [
+        "2023-W19-3",
+        "2020-W53-4",
+        "2020-W53-5",
+        "2023-w19-3",
+        "2023-W00-1",
+        "2023-W01-0",
+        "2023-W01-8",
+        "2023-W01-9",
+        "-001-W52-6",
+        "9999-W52-6",
+        "9999-W52-7",
+        "9999-W53-1",
+        "0000-W01-1",
+        "2023-W1-3",
+        "10000-W01-1",
+    ] {
+        read_row(out, label, ": day ", iso_week::read_week(label.as_bytes()))?;
+    }
     Ok(())
 }
 
-fn written(out: &mut impl Write, days: i64) -> io::Result<()> {
-    writing::row(
-        out,
-        Writer::Week,
-        "day ",
-        days,
-        ": label ",
-        &mut [b'?'; LENGTH],
-    )
-}
-
-fn short(out: &mut impl Write, days: i64) -> io::Result<()> {
-    writing::row(
-        out,
-        Writer::Week,
-        "day ",
-        days,
-        " in 9 bytes: label ",
-        &mut [b'?'; 9],
-    )
-}
-
-fn read(out: &mut impl Write, label: &[u8]) -> io::Result<()> {
-    read_row(out, label, ": day ", labels::iso_week::read_week(label))
+fn written(out: &mut impl Write, days: i64, words: &str, buffer: &mut [u8]) -> io::Result<()> {
+    written_row(out, iso_week::write_week, "day", days, words, buffer)
 }
