@@ -4,11 +4,11 @@
 
 #![tactic(auto)]
 
-use calendar::DateAnswer;
+use calendar::Date;
 use calendar::range::{FIRST_YEAR, LAST_YEAR};
-use refusal::NumberAnswer;
-use std::io;
+use refusal::Refusal;
 use std::io::Write;
+use std::{fmt, io};
 
 const STEP: u32 = 13;
 
@@ -17,53 +17,59 @@ const YEARS: u32 = (LAST_YEAR - FIRST_YEAR) as u32 / STEP + 1;
 
 fn main(rt: HostRuntime) -> io::Result<()> {
     let mut out = rt.stdout();
-    for steps in 0u32..YEARS {
-        months(&mut out, (steps * STEP) as i64 + FIRST_YEAR)?;
+    for steps in 0..YEARS {
+        for month in 1..=12 {
+            line(&mut out, i64::from(steps * STEP) + FIRST_YEAR, month)?;
+        }
     }
     Ok(())
 }
 
-fn months(out: &mut impl Write, year: i64) -> io::Result<()> {
-    for month in 1u32..13 {
-        ends(out, year, month as i64)?;
-    }
-    Ok(())
-}
-
-fn ends(out: &mut impl Write, year: i64, month: i64) -> io::Result<()> {
-    match calendar::last_day_of_month(year, month) {
-        NumberAnswer::Value(length) => {
-            day(out, year, month, 1)?;
-            write!(out, " ")?;
-            day(out, year, month, length)?;
-        }
-        NumberAnswer::Refused(_) => write!(out, "refused")?,
-    }
-    writeln!(out)
-}
-
-// The date of the count of a date, the count and its weekday.
-fn day(out: &mut impl Write, year: i64, month: i64, day: i64) -> io::Result<()> {
-    match calendar::days_from_civil(year, month, day) {
-        NumberAnswer::Value(count) => {
-            date(out, calendar::civil_from_days(count))?;
-            write!(out, "{count} ")?;
-            weekday(out, calendar::weekday_from_days(count))
-        }
-        NumberAnswer::Refused(_) => write!(out, "refused"),
+fn line(out: &mut impl Write, year: i64, month: i64) -> io::Result<()> {
+    match ends(year, month) {
+        Ok((first, last)) => writeln!(out, "{first} {last}"),
+        Err(_) => writeln!(out, "refused"),
     }
 }
 
-fn date(out: &mut impl Write, answer: DateAnswer) -> io::Result<()> {
-    match answer {
-        DateAnswer::Value(date) => write!(out, "{} {} {} ", date.year, date.month, date.day),
-        DateAnswer::Refused(_) => write!(out, "refused"),
+// The first and the last day of a month.
+fn ends(year: i64, month: i64) -> Result<(Day, Day), Refusal> {
+    let length = calendar::last_day_of_month(year, month)?;
+    let first = Day::of(Date {
+        year,
+        month,
+        day: 1,
+    })?;
+    let last = Day::of(Date {
+        year,
+        month,
+        day: length,
+    })?;
+    Ok((first, last))
+}
+
+// A date that was counted and read back, its count and its weekday.
+#[derive(Clone, Copy)]
+struct Day {
+    date: Date,
+    count: i64,
+    weekday: i64,
+}
+
+impl Day {
+    fn of(date: Date) -> Result<Self, Refusal> {
+        let count = calendar::days_from_civil(date)?;
+        Ok(Day {
+            date: calendar::civil_from_days(count)?,
+            count,
+            weekday: calendar::weekday_from_days(count)?,
+        })
     }
 }
 
-fn weekday(out: &mut impl Write, answer: NumberAnswer) -> io::Result<()> {
-    match answer {
-        NumberAnswer::Value(n) => write!(out, "{n}"),
-        NumberAnswer::Refused(_) => write!(out, "refused"),
+impl fmt::Display for Day {
+    fn fmt<W: fmt::Write>(&self, f: &mut fmt::Formatter<W>) -> fmt::Result {
+        let Date { year, month, day } = self.date;
+        write!(f, "{year} {month} {day} {} {}", self.count, self.weekday)
     }
 }
