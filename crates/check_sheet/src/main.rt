@@ -7,7 +7,6 @@ ghost use Rattle.std.specs.Prelude.{◌≤◌, length};
 ghost use Rattle.std.specs.Io.{ReadsAtMost};
 
 use anyhow::Context;
-use refusal::WriteAnswer;
 use std::io;
 use std::io::Read;
 
@@ -18,7 +17,7 @@ fn main(rt: HostRuntime) -> anyhow::Result<()> {
     let mut sheet = [0u8; ROOM];
     let length = read_input(&mut rt.stdin(), &mut sheet).context("check_sheet: standard input")?;
     let mut lines = [0u8; sheet::REPORT_MOST];
-    let WriteAnswer::Written(count) = sheet::report(&sheet[..length], &mut lines) else {
+    let Ok(count) = sheet::report(&sheet[..length], &mut lines) else {
         return Ok(());
     };
     rt.write_all(&lines[..count])
