@@ -25,6 +25,33 @@ pub extern "C" fn exported(n: u32) -> u32 {
 fn below(n: u32) -> u32 {
     n - 1
 }
+
+impl Few {
+    pub fn twice(self) -> u32 {
+        2 * self.n
+    }
+}
+
+impl<T> From<few::Few> for Many<T> {
+    fn from(few: Few) -> Self {
+        Many(few.n)
+    }
+}
+
+fn last(n: u32) -> u32 {
+    n * 3
+}
+
+pub trait Halved {
+    fn halved(self) -> u32 {
+        self.n / 2
+    }
+
+    #[cycle(down)]
+    fn down(self) -> u32 {
+        self.n - 3
+    }
+}
 """
 
 BOTH = """# both: off by one
@@ -34,6 +61,21 @@ new:     below(n) + 2
 old:     n - 1
 new:     n - 2
 """
+
+METHODS = """# a method, one of a trait's impl, a function behind them, and two of a trait, one of which is in a cycle of calls
+file: src/a.rt
+old:         2 * self.n
+new:         3 * self.n
+old:         Many(few.n)
+new:         Many(few.n + 1)
+old:     n * 3
+new:     n * 4
+old:         self.n / 2
+new:         self.n / 3
+old:         self.n - 3
+new:         self.n - 4
+"""
+BETWEEN = "file: src/a.rt\nold: impl Few {\nnew: impl Some {\n"
 
 TWICE = BOTH + "old: below(n) + 2\nnew: below(n) + 3\n"
 EXPORTED = "file: src/a.rt\nold:     n + LAST\nnew:     n + 8\n"
@@ -52,6 +94,8 @@ SEARCH = "fn {1}::a::{0}: no proof: expected answers in ./proofs/a/{0}/Answers.a
 OPEN = "fn small::a::{0}: not proved; `search` did not prove `returns`; it calls `small::a::low`, which is not proved\n"
 CALLS = "fn small::a::{0}: not proved; it calls `small::a::low`, which is not proved\n"
 CYCLE = OWN.format("+below_more")
+OF_FEW = OWN.format("Few/twice") + OWN.format("last") + OWN.format("Halved/halved") + OWN.format("Halved/+down")
+OF_METHODS = OF_FEW + SEARCH.format("ManyFromFew::from", "small")
 ABOVE, BELOW, RIGHT = OWN.format("above"), OWN.format("below"), OWN.format("above") + OWN.format("below")
 
 # What is tried, the edit, what the prover says of it (None: no verdict), and a word that the tool must say, or None where nothing is
@@ -61,6 +105,9 @@ CASES = [
     ("a text that the edit itself made", TWICE, RIGHT, None),
     ("an export", EXPORTED, OWN.format("exported"), None),
     ("a signature", SIGNATURE, BELOW, None),
+    ("methods", METHODS, OF_METHODS, None),
+    ("a method that is not refused", METHODS, OF_FEW, "a::ManyFromFew::from"),
+    ("a change between functions", BETWEEN, RIGHT, "outside every function"),
     ("refused without a proof file", BOTH, SEARCH.format("above", "small") + BELOW, None),
     ("refused by an open goal beside a refused call", BOTH, OPEN.format("above") + BELOW, None),
     ("a function that is not refused", BOTH, ABOVE, "a::below"),
