@@ -38,6 +38,12 @@ impl<T> From<few::Few> for Many<T> {
     }
 }
 
+impl Halves for u32 {
+    fn half(self) -> u32 {
+        self / 8
+    }
+}
+
 fn last(n: u32) -> u32 {
     n * 3
 }
@@ -62,12 +68,14 @@ old:     n - 1
 new:     n - 2
 """
 
-METHODS = """# a method, one of a trait's impl, a function behind them, and two of a trait, one of which is in a cycle of calls
+METHODS = """# a method, two of traits' impls, a function behind them, and two of a trait, one of which is in a cycle of calls
 file: src/a.rt
 old:         2 * self.n
 new:         3 * self.n
 old:         Many(few.n)
 new:         Many(few.n + 1)
+old:         self / 8
+new:         self / 9
 old:     n * 3
 new:     n * 4
 old:         self.n / 2
@@ -94,7 +102,7 @@ SEARCH = "fn {1}::a::{0}: no proof: expected answers in ./proofs/a/{0}/Answers.a
 OPEN = "fn small::a::{0}: not proved; `search` did not prove `returns`; it calls `small::a::low`, which is not proved\n"
 CALLS = "fn small::a::{0}: not proved; it calls `small::a::low`, which is not proved\n"
 CYCLE = OWN.format("+below_more")
-OF_FEW = OWN.format("Few/twice") + OWN.format("last") + OWN.format("Halved/halved") + OWN.format("Halved/+down")
+OF_FEW = OWN.format("U32Halves/half") + OWN.format("Few/twice") + OWN.format("last") + OWN.format("Halved/halved") + OWN.format("Halved/+down")
 OF_METHODS = OF_FEW + SEARCH.format("ManyFromFew::from", "small")
 ABOVE, BELOW, RIGHT = OWN.format("above"), OWN.format("below"), OWN.format("above") + OWN.format("below")
 
