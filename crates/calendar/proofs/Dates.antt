@@ -8,8 +8,7 @@ use borrow.Author.Tests.{not-true, not-false}
 use mir.Syntax.{w64}
 use mir.Val.{SFits, to_z, of_z}
 use mir.Facts.{to_z-of_z, to_z_pos}
-use Rattle.std.specs.Int.{int_wrapping_add}
-use Rattle.refusal.specs.Outcome.{Outcome, value, refused}
+use Rattle.refusal.specs.Outcome.{value, refused}
 use Rattle.numbers.specs.Range.{outside, since}
 use Rattle.numbers.proofs.Integers.{inside, since_add}
 use Rattle.numbers.proofs.Between.{natural_within}
@@ -18,7 +17,7 @@ use Rattle.numbers.proofs.Machine.{read, add_first_is}
 use Rattle.calendar.specs.declared.Date.{Date}
 use Rattle.calendar.specs.Range.{first_year, last_year, first_count, last_count}
 use Rattle.calendar.specs.Gregorian.{month_length, date_of, date_after, ValidDate}
-use Rattle.calendar.specs.Count.{count_of_date, day_of_year}
+use Rattle.calendar.specs.Count.{date_of_count, count_of_date, day_of_year}
 use Rattle.calendar.specs.Answers.{of_date, days_answer, day_of_year_answer, civil_answer, add_days_answer}
 use Rattle.calendar.specs.declared.checked_date.CheckedDate.{CheckedDate}
 use Rattle.calendar.specs.Checked.{public_date, year_answer, month_answer}
@@ -26,7 +25,6 @@ use Rattle.calendar.specs.Closed.{base_year, base_count, cycle, last_day, leap_d
 use Rattle.calendar.proofs.Leap.{leap_le}
 use Rattle.calendar.proofs.Months.{length_le, before_public}
 use Rattle.calendar.proofs.DayTests.{accepted_length}
-use Rattle.calendar.proofs.Shift.{civil_shifted}
 use Rattle.calendar.proofs.Steps.{found, number_in_range, count_after}
 use Rattle.calendar.proofs.Tests.{day_decides, accepted_valid, accepted_is, accepted_answer, date_refused, year_passes, month_passes, year_refuses, month_refuses}
 
@@ -232,10 +230,9 @@ module _ (year month day z : ℤ) (h : value z ≡ days_answer year month day) w
       accepted_answer year month day count_of_date z h (λ d. civil_answer (count_of_date d +ℤ p))
       ∙ ap (λ c. civil_answer (c +ℤ p)) (sym (accepted_is year month day count_of_date z h))
 
-  -- by the sum as the machine takes it
-  pub add_accepts :
-      (p : ℤ) (o : Outcome Date) → SFits w64 z → SFits w64 p → o ≡ civil_answer (int_wrapping_add w64 z p) → o ≡ add_days_answer year month day p
-  add_accepts p o f g q = q ∙ civil_shifted z p days_inside f g ∙ sym (added p)
+  pub added_outside : (p : ℤ) → outside first_count last_count (z +ℤ p) ≡ true → refused 4 ≡ add_days_answer year month day p
+  unfolding civil_answer
+  added_outside p t = sym (added p ∙ ap (λ t. cond t (refused 4) (value (date_of_count (z +ℤ p)))) t)
 
 -- a refused date is not shifted
 pub add_refuses : (year month day p : ℤ) (k : ℕ) → refused k ≡ days_answer year month day → refused k ≡ add_days_answer year month day p

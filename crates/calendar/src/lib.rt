@@ -18,6 +18,7 @@
 use base::{BASE_COUNT, FIRST_AFTER_MONDAY};
 use checked_date::CheckedDate;
 use length_by_bits::month_length;
+use range::{FIRST_COUNT, LAST_COUNT};
 use range_day::RangeDay;
 use refusal::Refusal;
 
@@ -100,11 +101,15 @@ pub fn day_of_year(date: Date) -> Result<i64, Refusal>
     Ok((year::days_before_month(checked.year, checked.month) + checked.day) as i64)
 }
 
-// The date that lies `days` days after a date, or before it where `days` is below zero. A sum that has no i64 wraps to one that is
-// outside the range too.
+// The date that lies `days` days after a date, or before it where `days` is below zero. What is asked of the shift is asked before the sum,
+// which may have no i64.
 #[tactic(auto, using(crate::proofs::Dates::add_refuses))]
 pub fn add_days(date: Date, days: i64) -> Result<Date, Refusal>
     ensures { outcome result ≡ add_days_answer date.year date.month date.day days }
 {
-    civil_from_days(days_from_civil(date)?.wrapping_add(days))
+    let count = days_from_civil(date)?;
+    if numbers::outside(FIRST_COUNT - count, LAST_COUNT - count, days) {
+        return Err(Refusal::OutOfRange);
+    }
+    civil_from_days(count + days)
 }
