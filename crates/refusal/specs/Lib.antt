@@ -1,3 +1,4 @@
 pub mod Numbers
 pub mod Outcome
+pub mod Printed
 pub mod Written

@@ -5,8 +5,9 @@
 
 #![tactic(auto)]
 
-ghost use Rattle.std.specs.Prelude.{◌≡◌};
+ghost use Rattle.std.specs.Prelude.{◌≡◌, Some};
 ghost use Rattle.refusal.specs.Numbers.{refusal_number};
+ghost use Rattle.refusal.specs.Printed.{refusal_text, refusal_at_text};
 ghost use Rattle.refusal.specs.declared.RefusalAt.TheVariants.{Alone};
 
 use std::error::Error;
@@ -61,6 +62,8 @@ impl Refusal {
 
 // The refusal's number.
 impl fmt::Display for Refusal {
+    ghost output = { λ refusal. Some (refusal_text refusal) };
+
     fn fmt<W: fmt::Write>(&self, f: &mut fmt::Formatter<W>) -> fmt::Result {
         write!(f, "{}", self.number())
     }
@@ -85,6 +88,8 @@ impl<N> From<Refusal> for RefusalAt<N> {
 
 // The refusal's number, and behind `at` the number that it hands back.
 impl<N: fmt::Display> fmt::Display for RefusalAt<N> {
+    ghost output = { refusal_at_text N.output };
+
     fn fmt<W: fmt::Write>(&self, f: &mut fmt::Formatter<W>) -> fmt::Result {
         match self {
             RefusalAt::Alone(refusal) => write!(f, "{refusal}"),
