@@ -55,3 +55,22 @@ fn put_verdict(out: &mut [u8], at: usize, answer: Result<(), RefusalAt<u64>>) ->
         }
     }
 }
+
+// How long a line is, without writing it.
+pub fn line_length(place: usize, answer: Result<(), RefusalAt<u64>>) -> usize
+    ensures { (result ≡ length (line place (claim_outcome answer))) × (result ≤ 63) }
+{
+    text::number_length(place as u64) + 1 + verdict_length(answer) + 1
+}
+
+fn verdict_length(answer: Result<(), RefusalAt<u64>>) -> usize
+    ensures { (result ≡ length (verdict_text (claim_outcome answer))) × (result ≤ 41) }
+{
+    match answer {
+        Ok(()) => b"accepted".len(),
+        Err(RefusalAt::Alone(why)) => text::number_length(why.number()),
+        Err(RefusalAt::At(why, n)) => {
+            text::number_length(why.number()) + 1 + text::number_length(n)
+        }
+    }
+}

@@ -10,9 +10,6 @@ use crate::{
 };
 use refusal::{Refusal, RefusalAt};
 
-// The longest line: a place of four digits and `10` with a least n of ten digits.
-const LINE_MOST: usize = 19;
-
 // The bytes of a sheet, and what they hold.
 #[derive(Clone, Copy)]
 pub struct Opened<'a> {
@@ -28,7 +25,6 @@ impl Opened<'_> {
     ghost use Rattle.text.specs.Filled.{Stored};
     ghost use Rattle.constants.specs.Answers.{claim_outcome};
     ghost use Rattle.sheet.specs.Answers.{record_in_place, claim_in_place, check_answer};
-    ghost use Rattle.sheet.specs.Report.{line};
     ghost use Rattle.sheet.specs.Opened.{Opens, lines_in};
 
     // The sheet of some bytes.
@@ -116,17 +112,9 @@ impl Opened<'_> {
     {
         let mut total = 0;
         for place in 0..self.contents.records {
-            total += self.line_length(place);
+            total += lines::line_length(place, self.judge(place));
         }
         total
-    }
-
-    // How long the line of a record is, which is written only to be measured.
-    fn line_length(&self, place: usize) -> usize
-        requires { place < self.now.contents.records }
-        ensures { result ≡ length (line place (check_answer self.now.bytes.now (pos place))) }
-    {
-        lines::put_line(&mut [0; LINE_MOST], 0, place, self.judge(place))
     }
 }
 

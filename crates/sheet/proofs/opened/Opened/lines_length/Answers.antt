@@ -3,7 +3,7 @@ use mathlib.Core.Path.{◌≡◌, ap}
 use native.Mathlib.Numerals.{add-one}
 use native.Mathlib.Omega.{arith}
 use lib.ListN.{length}
-use Rattle.sheet.specs.Report.{lines_of}
+use Rattle.sheet.specs.Report.{line, lines_of}
 use Rattle.sheet.proofs.LineTexts.{no_lines, next_length, lines_grow, lines_short}
 use Rattle.sheet.proofs.opened.Opened.lines_length.Goals as goal
 use Rattle.sheet.proofs.opened.Opened.lines_length.Goals.{After-line_length-total}
@@ -13,7 +13,10 @@ loop-place-init c = ap length (no_lines c.args.self.now.bytes.now)
 
 -- one more line
 next : (c : After-line_length-total) → c.loop-place.total + c.line_length-total.result ≡ length (lines_of c.args.self.now.bytes.now (c.loop-place.place + 1))
-next c = rw add-one (omega (arith, c.loop-place.invariant, next_length c.args.self.now.bytes.now c.loop-place.place))
+next c =
+    let place = c.loop-place.place in
+    rw add-one
+    (omega (arith, c.loop-place.invariant, ap (λ o. length (line place o)) c.judge.ensures, next_length c.args.self.now.bytes.now place))
 
 pub overflow_add-total : goal.overflow_add-total
 overflow_add-total c =
