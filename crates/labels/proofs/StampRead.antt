@@ -1,7 +1,6 @@
 -- What the code makes of a timestamp of any length.
-use Rattle.std.proofs.Common.{◌≡◌, ℕ, zero, suc, subst, ◌+◌, ◌-◌, ◌*◌, ◌%◌, ◌<◌, ◌≤◌, Bool, true, false, cond, ◌&&◌, ◌||◌, eqb, ltb, leb, List, [], ◌∷◌, ◌++◌, length, get_or, take, drop, nat_abs, sym, refl, ap, ◌∙◌, ap₂, add-one, arith, length-drop, take-append-drop, length-take-le, take_all, take-suc, ltb-false, ltb-true, le-ltb, lt-ltb, eqb-true, leb-true}
+use Rattle.std.proofs.Common.{◌≡◌, ℕ, subst, ◌+◌, ◌-◌, ◌*◌, ◌%◌, ◌<◌, ◌≤◌, Bool, true, false, cond, ◌&&◌, ◌||◌, eqb, ltb, leb, List, [], ◌∷◌, ◌++◌, length, get_or, take, drop, nat_abs, sym, refl, ap, ◌∙◌, ap₂, add-one, arith, length-drop, take-append-drop, length-take-le, take_all, take-suc, ltb-false, ltb-true, le-ltb, lt-ltb, eqb-true, leb-true}
 use borrow.Author.Tests.{eqb-false}
-use mathlib.Core.Bool.{and-false}
 use Rattle.refusal.specs.Outcome.{value, refused}
 use Rattle.refusal.proofs.Outcomes.{same_value}
 use Rattle.numbers.proofs.Bools.{no_both, and_left, and_right}
@@ -39,7 +38,7 @@ follow n m (b ∷ bs) d f = follow (n * 10 + (b - 48)) (one_more m b) bs (and_ri
         let s : n * 10 + (b - 48) ≡ m * 10 + b % 16 = omega (arith, q, d) in
         (λ h. s, λ h. omega (arith, s, h))
 
--- one more byte
+-- one more byte of a text
 limited_more : (m : ℕ) (text : List ℕ) (b : ℕ) → limited_from m (text ++ b ∷ []) ≡ one_more (limited_from m text) b
 limited_more m [] b = refl
 limited_more m (x ∷ xs) b = limited_more (one_more m x) xs b
@@ -48,30 +47,15 @@ module _ (text : List ℕ) (i : ℕ) (h : i < length text) where
   next : take (i + 1) text ≡ take i text ++ get_or text i 0 ∷ []
   next = ap (λ j. take j text) (add-one i) ∙ take-suc text i 0 h
 
-  -- one more digit, and a byte that is none
+  -- one more byte
   pub leading_more :
-      {n m : ℕ} → n ≡ limited_from 0 (take i text) → all_digits (take i text) ≡ true → m ≡ one_more n (get_or text i 0) → is_digit (get_or text i 0) ≡ true →
-      (m ≡ limited_from 0 (take (i + 1) text)) × (all_digits (take (i + 1) text) ≡ true)
+      {n m : ℕ} {right digit : Bool} → n ≡ limited_from 0 (take i text) → right ≡ all_digits (take i text) → m ≡ one_more n (get_or text i 0) →
+      digit ≡ is_digit (get_or text i 0) → (m ≡ limited_from 0 (take (i + 1) text)) × (right && digit ≡ all_digits (take (i + 1) text))
   leading_more so_far digits e d =
       let b = get_or text i 0 in (
         e ∙ ap (λ n. one_more n b) so_far ∙ sym (ap (limited_from 0) next ∙ limited_more 0 (take i text) b),
-        ap all_digits next ∙ all_digits_more (take i text) b ∙ ap₂ ◌&&◌ digits d,
+        ap₂ ◌&&◌ digits d ∙ sym (ap all_digits next ∙ all_digits_more (take i text) b),
       )
-
-  pub leading_ends : is_digit (get_or text i 0) ≡ false → refused 13 ≡ leading text
-  leading_ends d =
-      let stop : all_digits (take (i + 1) text) ≡ false =
-      ap all_digits next ∙ all_digits_more (take i text) (get_or text i 0) ∙ ap (λ t. all_digits (take i text) && t) d ∙ and-false (all_digits (take i text)) in
-      sym (ap (λ t. cond t (value (limited_from 0 text)) (refused 13)) (not_all text (i + 1) stop))
-    where
-      not_all : (text : List ℕ) (k : ℕ) → all_digits (take k text) ≡ false → all_digits text ≡ false
-      not_all text zero e = no_both true refl e
-      not_all [] (suc k) e = no_both true refl e
-      not_all (b ∷ bs) (suc k) e = go (is_digit b) (not_all bs k) e
-        where
-          go : (t : Bool) → (all_digits (take k bs) ≡ false → all_digits bs ≡ false) → t && all_digits (take k bs) ≡ false → t && all_digits bs ≡ false
-          go true f e = f e
-          go false f e = refl
 
 -- the digits in front, from their number
 module _ (text : List ℕ) where

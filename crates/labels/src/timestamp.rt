@@ -116,13 +116,17 @@ fn leading_digits(text: &[u8]) -> Result<u64, Refusal>
     ensures { outcome result ≡ leading text.now }
 {
     let mut n: u64 = 0;
+    let mut right = true;
+    // All bytes are looked at, so that the compiler can take several in one turn.
     for byte in text {
-        if !byte.is_ascii_digit() {
-            return Err(Refusal::MalformedTiming);
-        }
+        right &= byte.is_ascii_digit();
         n = one_more(n, *byte);
     }
-    Ok(n)
+    if right {
+        Ok(n)
+    } else {
+        Err(Refusal::MalformedTiming)
+    }
 }
 
 fn one_more(n: u64, byte: u8) -> u64
