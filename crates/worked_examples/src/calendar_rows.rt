@@ -77,10 +77,10 @@ fn date_row(out: &mut impl Write, date: Date) -> io::Result<()> {
     let day_of_year = Answer(calendar::day_of_year(date));
     let length = Answer(calendar::last_day_of_month(date.year, date.month));
     let leap = Answer(calendar::is_leap(date.year).map(yes_or_no));
-    write!(out, "date {}: count {count}, ", date_numbers(date))?;
+    write!(out, "date {}: count {count}", date_numbers(date))?;
     writeln!(
         out,
-        "day of year {day_of_year}, month length {length}, leap {leap}"
+        ", day of year {day_of_year}, month length {length}, leap {leap}"
     )
 }
 

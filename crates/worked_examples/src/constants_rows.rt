@@ -35,7 +35,10 @@ fn searches(out: &mut impl Write) -> io::Result<()> {
         write!(out, "search ")?;
         names(out, constants, end)?;
         match constants::first_difference(constants, end) {
-            Ok(None) => writeln!(out, "none")?,
+            Ok(None) => {
+                write!(out, "none")?;
+                writeln!(out)?;
+            }
             Ok(Some(n)) => writeln!(out, "{n}")?,
             Err(refusal) => writeln!(out, "refused {refusal}")?,
         }

@@ -41,7 +41,7 @@ fn instant_row(
     written_row(
         out,
         rfc3339::write_instant,
-        "instant",
+        "instant ",
         instant,
         words,
         buffer,
@@ -84,5 +84,5 @@ fn position_row(
     words: &str,
     buffer: &mut [u8],
 ) -> io::Result<()> {
-    written_row(out, write_position, "position", position, words, buffer)
+    written_row(out, write_position, "position ", position, words, buffer)
 }

@@ -61,7 +61,7 @@ pub fn written_row<F: Fn(i64, &mut [u8]) -> Result<usize, Refusal>>(
     requires { F.IsAlwaysCallable write }
 {
     let answer = Answer(write(n, buffer));
-    write!(out, "{kind} {n}{words}{answer} ")?;
+    write!(out, "{kind}{n}{words}{answer} ")?;
     out.write_all(buffer)?;
     writeln!(out)
 }

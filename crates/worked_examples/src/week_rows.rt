@@ -94,5 +94,5 @@ fn labels(out: &mut impl Write) -> io::Result<()> {
 }
 
 fn written(out: &mut impl Write, days: i64, words: &str, buffer: &mut [u8]) -> io::Result<()> {
-    written_row(out, iso_week::write_week, "day", days, words, buffer)
+    written_row(out, iso_week::write_week, "day ", days, words, buffer)
 }
