@@ -27,7 +27,7 @@ pub fn is_faulty(instants: &[i64]) -> bool
     falls_to_last(before, rest)
 }
 
-// Whether one of eight instants that go on from `before` is smaller than the one before it. All eight are compared, without a branch.
+// Whether one of eight instants that go on from `before` is smaller than the one before it. All eight are compared, also where one falls.
 #[tactic(auto, using(crate::proofs::Faults::falls_next, crate::proofs::Faults::falls_none))]
 fn eight_fall(before: i64, block: &[i64; 8]) -> bool
     ensures { result ≡ falls_from before block.now }
