@@ -97,6 +97,7 @@ CALLED = AT + "error: 1 declaration that depends on `closed`, which was not admi
 LAW = AT + "error: `returns`: `a-law` was not admitted, so this cannot be checked\n"
 RENAMED = AT + "error: `returns-then-n`: `goal.returns-then-n`: module `Goals` has no `returns-then-n` that can be named from here\n"
 FIELD = AT + "error: `returns`: record `Else1` has no field `if-n-lt0` (nearest: .if-n-lt1)\n"
+WRAPPED = AT + "error: `returns`: record `Else1` (nearest: .if-n-lt1)\n  has no field `if-n-lt0`\n"
 SCOPE = AT + "error: `returns`: `low` is not in scope\n"
 SEARCH = "fn {1}::a::{0}: no proof: expected answers in ./proofs/a/{0}/Answers.antt; `search` did not prove `returns`\n"
 OPEN = "fn small::a::{0}: not proved; `search` did not prove `returns`; it calls `small::a::low`, which is not proved\n"
@@ -129,6 +130,7 @@ CASES = [
     ("another cycle of calls refused", BOTH, ABOVE + CYCLE, "a::below"),
     ("a goal that the edit took away", BOTH, RIGHT + RENAMED.format("above"), "unfit"),
     ("a proof that lacks a field now", BOTH, RIGHT + FIELD.format("above"), "unfit"),
+    ("a proof that lacks a field now, told on two lines", BOTH, RIGHT + WRAPPED.format("above"), "unfit"),
     ("a proof that lacks a name now", BOTH, RIGHT + SCOPE.format("above"), "unfit"),
     ("an edit that does not compile", BOTH, None, "no verdict"),
     ("a text that is not there", BOTH.replace("n - 1", "n - 7"), RIGHT, "is not in"),
