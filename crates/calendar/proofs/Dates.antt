@@ -230,9 +230,17 @@ module _ (year month day z : ℤ) (h : value z ≡ days_answer year month day) w
       accepted_answer year month day count_of_date z h (λ d. civil_answer (count_of_date d +ℤ p))
       ∙ ap (λ c. civil_answer (c +ℤ p)) (sym (accepted_is year month day count_of_date z h))
 
-  pub added_outside : (p : ℤ) → outside first_count last_count (z +ℤ p) ≡ true → refused 4 ≡ add_days_answer year month day p
+  decided_by :
+      (p : ℤ) {t : Bool} → outside first_count last_count (z +ℤ p) ≡ t →
+      add_days_answer year month day p ≡ cond t (refused 4) (value (date_of_count (z +ℤ p)))
   unfolding civil_answer
-  added_outside p t = sym (added p ∙ ap (λ t. cond t (refused 4) (value (date_of_count (z +ℤ p)))) t)
+  decided_by p h = added p ∙ ap (λ t. cond t (refused 4) (value (date_of_count (z +ℤ p)))) h
+
+  pub added_inside : (p : ℤ) → outside first_count last_count (z +ℤ p) ≡ false → value (date_of_count (z +ℤ p)) ≡ add_days_answer year month day p
+  added_inside p h = sym (decided_by p h)
+
+  pub added_outside : (p : ℤ) → outside first_count last_count (z +ℤ p) ≡ true → refused 4 ≡ add_days_answer year month day p
+  added_outside p h = sym (decided_by p h)
 
 -- a refused date is not shifted
 pub add_refuses : (year month day p : ℤ) (k : ℕ) → refused k ≡ days_answer year month day → refused k ≡ add_days_answer year month day p

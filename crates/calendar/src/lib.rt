@@ -111,5 +111,5 @@ pub fn add_days(date: Date, days: i64) -> Result<Date, Refusal>
     if numbers::outside(FIRST_COUNT - count, LAST_COUNT - count, days) {
         return Err(Refusal::OutOfRange);
     }
-    civil_from_days(count + days)
+    Ok(fast::date_of(RangeDay::of_tested_count(count + days)))
 }

@@ -2,13 +2,16 @@
 use lib.IntN.{◌+ℤ◌}
 use mathlib.Core.Bool.{Bool, false}
 use mathlib.Core.Path.{◌≡◌, sym, ap, ◌∙◌}
-use Rattle.numbers.specs.Range.{outside}
+use Rattle.refusal.specs.Outcome.{value}
+use Rattle.numbers.specs.Range.{outside, since}
+use Rattle.numbers.proofs.Machine.{read}
 use Rattle.calendar.specs.Range.{first_count, last_count}
-use Rattle.calendar.specs.Answers.{civil_answer}
-use Rattle.calendar.proofs.Dates.{days_inside, added, added_outside}
+use Rattle.calendar.specs.Gregorian.{date_after}
+use Rattle.calendar.specs.Count.{date_of_count}
+use Rattle.calendar.proofs.Dates.{days_inside, added_inside, added_outside}
 use Rattle.calendar.proofs.Shift.{first_subtracts, last_subtracts, sum_tested, sum_fits, sum_is}
 use Rattle.calendar.proofs.add_days.Goals as goal
-use Rattle.calendar.proofs.add_days.Goals.{After-outside, In_ok-count}
+use Rattle.calendar.proofs.add_days.Goals.{After-outside, Else-outside, In_ok-count}
 
 -- an accepted date: its count lies in the range
 in_range_lem : (c : In_ok-count) → outside first_count last_count c.in_ok-count.count ≡ false
@@ -29,15 +32,22 @@ returns-then-outside c =
     let d = c.args.date in
     added_outside d.year d.month d.day c.in_ok-count.count c.in_ok-count.ensures c.args.days (shift_tested c.before c.if-outside.true)
 
+-- the code reads the sum as it is
+read_as_is : (c : Else-outside) → read (read c.in_ok-count.count +ℤ read c.args.days) ≡ c.in_ok-count.count +ℤ c.args.days
+read_as_is c =
+    sum_is c.in_ok-count.count c.args.days (in_range_lem c.before.before) c.ranges.days (shift_tested c.before c.if-outside.false)
+
 pub overflow_add-count : goal.overflow_add-count
 overflow_add-count c =
     sum_fits c.in_ok-count.count c.args.days (in_range_lem c.before.before) c.ranges.days (shift_tested c.before c.if-outside.false)
 
+pub of_tested_count-requires : goal.of_tested_count-requires
+of_tested_count-requires c = ap (outside first_count last_count) (read_as_is c) ∙ shift_tested c.before c.if-outside.false
+
 pub returns : goal.returns
+unfolding date_of_count
 returns c =
     let d = c.args.date in
-    let z = c.in_ok-count.count in
-    let s = c.before.before in
-    c.civil_from_days.ensures
-    ∙ ap civil_answer (sum_is z c.args.days (in_range_lem s.before) c.ranges.days (shift_tested s c.if-outside.false))
-    ∙ sym (added d.year d.month d.day z c.in_ok-count.ensures c.args.days)
+    let s = (goal.at.returns c).Else-outside in
+    ap value (c.date_of.ensures ∙ ap date_after (c.of_tested_count.ensures ∙ ap (since first_count) (read_as_is s)))
+    ∙ added_inside d.year d.month d.day c.in_ok-count.count c.in_ok-count.ensures c.args.days (shift_tested s.before c.if-outside.false)
