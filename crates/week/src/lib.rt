@@ -18,8 +18,9 @@ mod year_week;
 
 ghost use Rattle.std.specs.Prelude.{◌≡◌, false, ◌≤◌};
 ghost use Rattle.numbers.specs.Range.{outside, since};
-ghost use Rattle.refusal.specs.Outcome.{outcome};
+ghost use Rattle.refusal.specs.Outcome.{outcome, value};
 ghost use Rattle.calendar.specs.Range.{first_count, last_count};
+ghost use Rattle.calendar.specs.Answers.{weekday_answer};
 ghost use Rattle.week.specs.Answers.{week_answer, week_days_answer};
 ghost use Rattle.week.specs.Checked.{year_outcome, year_answer};
 ghost use Rattle.week.specs.Closed.{base_count, to_day};
@@ -37,12 +38,7 @@ pub fn week_from_days(days: i64) -> Result<WeekDate, Refusal>
     ensures { outcome result ≡ week_answer days }
 {
     let weekday = calendar::weekday_from_days(days)?;
-    let thursday = year_week::of_day(days_from_base(days) + 4 - weekday as u64);
-    Ok(WeekDate {
-        year: thursday.year as i64 + BASE_YEAR,
-        week: thursday.week as i64,
-        weekday,
-    })
+    Ok(week_date(days, weekday))
 }
 
 // The day count of a week date.
@@ -59,6 +55,19 @@ pub fn days_from_week(date: WeekDate) -> Result<i64, Refusal>
         return Err(Refusal::OutOfRange);
     }
     Ok(days)
+}
+
+// The week date of a count in the range, whose weekday is handed in.
+fn week_date(days: i64, weekday: i64) -> WeekDate
+    requires { value weekday ≡ weekday_answer days }
+    ensures { value result ≡ week_answer days }
+{
+    let thursday = year_week::of_day(days_from_base(days) + 4 - weekday as u64);
+    WeekDate {
+        year: thursday.year as i64 + BASE_YEAR,
+        week: thursday.week as i64,
+        weekday,
+    }
 }
 
 // A count in the range, from the base on.

@@ -1,42 +1,39 @@
-use Rattle.std.proofs.Common.{◌≡◌, ℕ, ◌+◌, ◌-◌, ◌/◌, ◌%◌, ◌≤◌, ap, ◌∙◌, subst, rules, arith, pos, nat_abs}
+use Rattle.std.proofs.Common.{◌≡◌, ℕ, ◌+◌, ◌-◌, ◌/◌, ◌%◌, ◌≤◌, sym, ap, ◌∙◌, subst, arith, pos, nat_abs}
 use mir.Facts.{to_z-of_z, to_z_pos}
-use mir.Val.{SFits}
 use mir.Syntax.{w64}
 use lib.IntN.{◌+ℤ◌, +ℤ_comm}
 use Rattle.refusal.specs.Outcome.{value}
 use Rattle.numbers.specs.Range.{since}
 use Rattle.numbers.proofs.Machine.{read, pos_fits, cast_pos, add_first, add_first_is}
+use Rattle.calendar.specs.Answers.{weekday_answer}
 use Rattle.week.specs.Answers.{week_answer}
 use Rattle.week.specs.Week.{week_date}
 use Rattle.week.specs.Closed.{base_year, base_count, to_year, to_day, InYear, first_day}
 use Rattle.week.proofs.Years.{thursday_at}
 use Rattle.week.proofs.Counts.{Known, known, year_small, week_small, week_accepts}
-use Rattle.week.proofs.week_from_days.Goals as goal
-use Rattle.week.proofs.week_from_days.Goals.{In_ok-weekday, After-days_from_base, After-of_day-thursday}
+use Rattle.week.proofs.week_date.Goals as goal
+use Rattle.week.proofs.week_date.Goals.{Start, After-days_from_base, After-of_day-thursday}
 
 -- the count has a weekday
-count_known : (c : In_ok-weekday) → Known (read c.args.days) c.in_ok-weekday.weekday
-count_known c = known _ _ c.in_ok-weekday.ensures
+count_known : (c : Start) → Known (read c.args.days) c.args.weekday
+count_known c = known _ _ (c.requires ∙ ap weekday_answer (sym (to_z-of_z c.ranges.days)))
 
-weekday_read : (c : In_ok-weekday) → read c.in_ok-weekday.weekday ≡ pos (since base_count (read c.args.days) % 7 + 1)
-weekday_read c = let f : SFits w64 c.in_ok-weekday.weekday = search rules in to_z-of_z f ∙ (count_known c).weekday_is
+weekday_read : (c : Start) → read c.args.weekday ≡ pos (since base_count (read c.args.days) % 7 + 1)
+weekday_read c = to_z-of_z c.ranges.weekday ∙ (count_known c).weekday_is
 
 pub days_from_base-requires : goal.days_from_base-requires
-days_from_base-requires c = (count_known (goal.at.days_from_base-requires c).In_ok-weekday).inside
+days_from_base-requires c = (count_known c).inside
 
 pub overflow_cast-weekday : goal.overflow_cast-weekday
 overflow_cast-weekday c =
-    cast_pos w64 (since base_count (read c.args.days) % 7 + 1) (omega arith) (weekday_read (goal.at.overflow_cast-weekday c).In_ok-weekday)
+    cast_pos w64 (since base_count (read c.args.days) % 7 + 1) (omega arith) (weekday_read (goal.at.overflow_cast-weekday c).Start)
 
 -- the Thursday that the code hands on
 module _ (c : After-days_from_base) where
-  abbrev k : In_ok-weekday
-  k = (c.before)
+  weekday_abs : nat_abs (read c.args.weekday) ≡ since base_count (read c.args.days) % 7 + 1
+  weekday_abs = ap nat_abs (weekday_read c.before)
 
-  weekday_abs : nat_abs (read c.in_ok-weekday.weekday) ≡ since base_count (read c.args.days) % 7 + 1
-  weekday_abs = ap nat_abs (weekday_read k)
-
-  thursday_is : c.days_from_base.result + 4 - nat_abs (read c.in_ok-weekday.weekday) ≡ thursday_at (since base_count (read c.args.days))
+  thursday_is : c.days_from_base.result + 4 - nat_abs (read c.args.weekday) ≡ thursday_at (since base_count (read c.args.days))
   thursday_is = omega (arith, c.days_from_base.ensures.0, weekday_abs)
 
 pub overflow_sub-days_from_base : goal.overflow_sub-days_from_base
@@ -50,6 +47,9 @@ module _ (c : After-of_day-thursday) where
   abbrev t : ℕ
   t = thursday_at (since base_count (read c.args.days))
 
+  abbrev k : Known (read c.args.days) c.args.weekday
+  k = count_known c.before.before
+
   year_is : InYear t c.of_day-thursday.result.year
   year_is = subst (λ n. InYear n c.of_day-thursday.result.year) (thursday_is c.before) c.of_day-thursday.ensures.0
 
@@ -57,15 +57,14 @@ module _ (c : After-of_day-thursday) where
   week_is = c.of_day-thursday.ensures.1 ∙ ap (λ n. (n - first_day c.of_day-thursday.result.year) / 7 + 1) (thursday_is c.before)
 
   year_le : c.of_day-thursday.result.year ≤ to_year + 1
-  year_le = year_small (count_known (k c.before)) _ _ year_is week_is
+  year_le = year_small k _ _ year_is week_is
 
   week_le : c.of_day-thursday.result.week ≤ to_day + 4
-  week_le = week_small (count_known (k c.before)) _ _ year_is week_is
+  week_le = week_small k _ _ year_is week_is
 
   accepts :
-      value (week_date (base_year +ℤ pos c.of_day-thursday.result.year) (pos c.of_day-thursday.result.week) c.in_ok-weekday.weekday)
-      ≡ week_answer (read c.args.days)
-  accepts = week_accepts (count_known (k c.before)) _ _ year_is week_is
+      value (week_date (base_year +ℤ pos c.of_day-thursday.result.year) (pos c.of_day-thursday.result.week) c.args.weekday) ≡ week_answer (read c.args.days)
+  accepts = week_accepts k _ _ year_is week_is
 
 pub overflow_cast-result : goal.overflow_cast-result
 overflow_cast-result c = let l = year_le (goal.at.overflow_cast-result c).After-of_day-thursday in pos_fits (omega arith)
@@ -80,7 +79,6 @@ returns c =
     let o = (goal.at.returns c).After-of_day-thursday in
     let l = year_le o in
     let m = week_le o in
-    let f : SFits w64 c.in_ok-weekday.weekday = search rules in
     let p = add_first_is base_year c.of_day-thursday.result.year (omega arith) ∙ +ℤ_comm (pos c.of_day-thursday.result.year) base_year in
-    (λ i. value (week_date (p i) (to_z_pos w64 {n = c.of_day-thursday.result.week} (omega (arith, m)) i) (to_z-of_z f i))) ∙ accepts o
+    (λ i. value (week_date (p i) (to_z_pos w64 {n = c.of_day-thursday.result.week} (omega (arith, m)) i) (to_z-of_z c.ranges.weekday i))) ∙ accepts o
     ∙ ap week_answer (to_z-of_z c.ranges.days)
